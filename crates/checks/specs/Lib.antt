@@ -1,0 +1,3 @@
+pub mod LimitPrice
+pub mod PutAndCall
+pub mod Desk

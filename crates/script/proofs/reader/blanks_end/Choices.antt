@@ -1,0 +1,12 @@
+-- From each place on, the blanks end at one place. Assumes nothing.
+use Prim.Native.Nat.{_-_}
+use mathlib.Core.Path.{_≡_}
+use lib.ListN.{length}
+use Rattle.script.specs.Words.{blank, runEnd}
+use Rattle.script.proofs.reader.blanks_end.Given as given
+
+abbrev pub Inv-loop-at : given.InvT-loop-at
+Inv-loop-at l = runEnd blank (l .line) (l .at) ≡ runEnd blank (l .line) (l .from)
+
+abbrev pub μ-loop-at : given.MeasureT-loop-at
+μ-loop-at l = length (l .line) - l .at

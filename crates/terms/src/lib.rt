@@ -1,0 +1,40 @@
+//! The venue's vocabulary: numbers in their ranges, words with few values, refusals, and what is known of a series.
+
+mod bounded;
+mod kinds;
+mod ranges;
+mod refusal;
+mod values;
+
+pub use bounded::Bounded;
+pub use bounded::BoundedEq;
+pub use bounded::BoundedPartialEq;
+pub use kinds::Class;
+pub use kinds::Kind;
+pub use kinds::LimitKind;
+pub use kinds::Marks;
+pub use kinds::OptionType;
+pub use kinds::Phase;
+pub use kinds::Reach;
+pub use kinds::Role;
+pub use kinds::Side;
+pub use kinds::flag;
+pub use ranges::Acronym;
+pub use ranges::Contracts;
+pub use ranges::Interval;
+pub use ranges::Limit;
+pub use ranges::Login;
+pub use ranges::OrderNumber;
+pub use ranges::Price;
+pub use ranges::Series;
+pub use ranges::Time;
+pub use ranges::optional_price;
+pub use refusal::Refusal;
+pub use values::BidOffer;
+pub use values::ConditionNumbers;
+pub use values::Conditions;
+pub use values::Request;
+pub use values::RequestNumbers;
+pub use values::Scope;
+pub use values::ValueNumbers;
+pub use values::Values;

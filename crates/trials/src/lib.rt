@@ -1,0 +1,4 @@
+//! Tests of what people would try first.
+
+#[cfg(test)]
+mod lines;

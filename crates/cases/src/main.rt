@@ -3,6 +3,7 @@
 mod table;
 
 use std::io;
+use table::Burst;
 use table::Case;
 use table::answer_to;
 use table::due;
@@ -11,6 +12,19 @@ use terms::ConditionNumbers;
 
 fn side_word(side: u64) -> &'static str {
     if side == 1 { "buy" } else { "sell" }
+}
+
+/// So many events at a time.
+fn show_burst(rt: &LibcRuntime, burst: &Burst) -> io::Result<()> {
+    let Burst {
+        time,
+        events,
+        contracts,
+    } = *burst;
+    if contracts == 0 {
+        return print!(rt, ", {events} at {time}");
+    }
+    print!(rt, ", {events} of {contracts} at {time}")
 }
 
 /// What is asked in a case, in a few words.
@@ -45,6 +59,28 @@ fn show_asked(rt: &LibcRuntime, case: &Case) -> io::Result<()> {
             let price = request.price;
             let strike = values.strike;
             print!(rt, "put and call: {side} {price}, strike {strike}")
+        }
+        Case::Windows {
+            kind,
+            limit,
+            interval,
+            first,
+            second,
+            time,
+            contracts,
+            ..
+        } => {
+            print!(rt, "window {kind}: limit {limit} in {interval} ms")?;
+            show_burst(rt, &first)?;
+            show_burst(rt, &second)?;
+            show_burst(
+                rt,
+                &Burst {
+                    time,
+                    events: 1,
+                    contracts,
+                },
+            )
         }
     }
 }

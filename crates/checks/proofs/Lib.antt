@@ -1,1 +1,5 @@
 pub mod Distances
+pub mod Places
+pub mod Pairs
+pub mod Told
+pub mod Limits

@@ -1,3 +1,9 @@
 pub mod LimitPrice
 pub mod PutAndCall
 pub mod Desk
+pub mod Meaning
+pub mod Places
+pub mod Judged
+pub mod Piled
+pub mod Sizes
+pub mod Known

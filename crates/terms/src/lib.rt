@@ -1,7 +1,10 @@
-//! The venue's vocabulary: numbers in their ranges, words with few values, refusals, and what is known of a series.
+//! The venue's vocabulary: numbers in their ranges, words with few values, refusals, what is known of a series, what rests and waits, and the calls of a gate.
 
 mod bounded;
+mod entries;
+mod events;
 mod kinds;
+mod messages;
 mod ranges;
 mod refusal;
 mod values;
@@ -9,6 +12,15 @@ mod values;
 pub use bounded::Bounded;
 pub use bounded::BoundedEq;
 pub use bounded::BoundedPartialEq;
+pub use entries::Entry;
+pub use entries::Slip;
+pub use events::Call;
+pub use events::Effect;
+pub use events::EnterAnswer;
+pub use events::Event;
+pub use events::Party;
+pub use events::Struck;
+pub use events::Trade;
 pub use kinds::Class;
 pub use kinds::Kind;
 pub use kinds::LimitKind;
@@ -19,6 +31,13 @@ pub use kinds::Reach;
 pub use kinds::Role;
 pub use kinds::Side;
 pub use kinds::flag;
+pub use messages::Asked;
+pub use messages::Causes;
+pub use messages::Fill;
+pub use messages::LimitNumbers;
+pub use messages::Notice;
+pub use messages::ScopeNumber;
+pub use messages::Ticket;
 pub use ranges::Acronym;
 pub use ranges::Contracts;
 pub use ranges::Interval;

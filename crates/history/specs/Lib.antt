@@ -1,0 +1,15 @@
+pub mod Fields
+pub mod State
+pub mod Scopes
+pub mod Trips
+pub mod Entering
+pub mod Acts
+pub mod Calls
+pub mod Strikes
+pub mod Step
+pub mod Part
+pub mod Tally
+pub mod Held
+pub mod Promises
+pub mod Laws
+pub mod Days

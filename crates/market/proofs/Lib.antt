@@ -1,0 +1,9 @@
+pub mod Sums
+pub mod Counts
+pub mod Fills
+pub mod Once
+pub mod Picked
+pub mod Reaches
+pub mod Orders
+pub mod Crossing
+pub mod Sweeps

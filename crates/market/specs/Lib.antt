@@ -1,0 +1,5 @@
+pub mod Book
+pub mod Market
+pub mod Laws
+pub mod Sweeps
+pub mod Seen

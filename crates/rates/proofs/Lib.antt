@@ -1,0 +1,5 @@
+pub mod Steps
+pub mod Sound
+pub mod Seen
+pub mod Notices
+pub mod Whole

@@ -10,7 +10,7 @@ use Rattle.market.specs.Book.{Entry, Slip, anyIn, counts, takenOff, totals, wai
 use Rattle.market.proofs.Picked.{anys-only, counts-only, offs-others, only, onlys-off, picked-so, totals-only, withouts-agree}
 use Rattle.market.proofs.Sums.{totals-same}
 use Rattle.checks.specs.Meaning.{Meaning}
-use Rattle.history.specs.Part.{has, own}
+use Rattle.history.specs.Part.{has}
 use Rattle.history.specs.Promises.{Firm}
 use Rattle.history.specs.State.{Row, State, blank, holdOf, privateOf, row, withBook}
 

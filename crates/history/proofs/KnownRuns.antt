@@ -26,7 +26,6 @@ use Rattle.terms.specs.declared.refusal.Refusal.{Refusal}
 use Rattle.terms.proofs.Tables.{at-put, mixed, never, same-all}
 use Rattle.market.specs.Book.{Slip, takenOff, waitingOf}
 use Rattle.market.specs.Market.{buySide, sellSide}
-use Rattle.market.proofs.Sweeps.{either}
 use Rattle.checks.specs.Meaning.{Lawful, Meaning, no-cause}
 use Rattle.history.specs.Acts.{Act, Cancel, Enter, Kill, Limit, Moment, Open, PutBack, Receipt, Release, Retire, Take, Tick, Values, act, entered, moment, strike}
 use Rattle.history.specs.Calls.{done, inKill, next, refusal, reply}

@@ -75,7 +75,7 @@ module _ (m : Meaning) where
   refused-stands : (s : State m) (c : Act) (x : Refusal) → refusal s c ≡ Some x → next s c ≡ s
   refused-stands s c x e = ap (λ (o : Option Refusal). unless o s (done s c)) e
 
-  goes-on : (p : m .Pub) (room : ℕ) (h : List Event) (s u : State m) (e : Event) → Run m p room h s → Step s e u → Run m p room (e ∷ h) u
+  pub goes-on : (p : m .Pub) (room : ℕ) (h : List Event) (s u : State m) (e : Event) → Run m p room h s → Step s e u → Run m p room (e ∷ h) u
   goes-on p room h s u e r t =
       ((r .0, subst (λ (x : State m). Allowed x (moment e)) (r .1) (t .0)), t .1 ∙ ap (λ (x : State m). after x (moment e)) (r .1))
 

@@ -21,3 +21,4 @@ pub mod Replay
 pub mod Isolation
 pub mod Laws
 pub mod Promised
+pub mod Composed

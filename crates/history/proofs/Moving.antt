@@ -29,7 +29,6 @@ use Rattle.market.proofs.Once.{Once, fills-once, once-filled}
 use Rattle.market.proofs.Picked.{all-without}
 use Rattle.market.proofs.Reaches.{reach-all, reach-own}
 use Rattle.market.proofs.Sums.{totals-ext, totals-off, totals-rest, totals-same}
-use Rattle.market.proofs.Sweeps.{either}
 use Rattle.checks.specs.Meaning.{Meaning}
 use Rattle.history.specs.Acts.{Retire, strike}
 use Rattle.history.specs.Calls.{done}
@@ -41,7 +40,6 @@ use Rattle.history.specs.Step.{Allowed, after}
 use Rattle.history.specs.Strikes.{fillNotice, fillTold, tradedState}
 use Rattle.history.specs.Tally.{onSlips, restingContracts, waitingContracts}
 use Rattle.history.specs.Trips.{causesOf, effectOf, inTrip, noticed, tell, trip}
-use Rattle.history.proofs.Known.{here}
 use Rattle.history.proofs.Rows.{open-free}
 use Rattle.history.proofs.Sound.{OpenIn, Sound, open-in, sound-noticed, sound-traded, traders-open, trip-row}
 use Rattle.history.proofs.Soundness.{sound-told}

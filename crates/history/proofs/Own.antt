@@ -33,7 +33,7 @@ use Rattle.history.specs.Acts.{Act, Cancel, Enter, Kill, Limit, Open, PutBack,
 use Rattle.history.specs.Calls.{done, first, inKill, isOldest, killCause, next, refusal, reply}
 use Rattle.history.specs.Entering.{Verdict, enterReply, verdict, verdictLeaves}
 use Rattle.history.specs.Fields.{goodFill, goodKill, goodLimit, goodLogin, goodNumber, goodScope}
-use Rattle.history.specs.Part.{answers, belongs, has, hasScope, own}
+use Rattle.history.specs.Part.{answers, belongs, has, hasScope}
 use Rattle.history.specs.Promises.{Firm}
 use Rattle.history.specs.Scopes.{holdScope, liftScope, scopeAcronym, shut}
 use Rattle.history.specs.State.{Row, State, blank, firstCause, isFree, isOpen, noneWait, receiptedRow, retiredRow, row, withBook, withHold, withOut, withRow, withTime, withValues}
@@ -41,7 +41,6 @@ use Rattle.history.specs.Trips.{tell}
 use Rattle.history.proofs.Accepted.{enter-ok, kill-ok, receipt-ok, release-ok, retire-ok, shut-ok, take-ok}
 use Rattle.history.proofs.Alike.{Alike, alike-off, has-alike, mine, own-any, own-row, own-slips, own-totals}
 use Rattle.history.proofs.AlikeMoves.{AsBefore, alike-held, alike-row, alike-told, same-before, shut-before}
-use Rattle.history.proofs.Known.{here}
 use Rattle.history.proofs.Moving.{scope-book, scope-own}
 use Rattle.history.proofs.OwnEntries.{alike-enter, enter-refusal, same-reply, same-verdict}
 use Rattle.history.proofs.Rows.{open-leaving}

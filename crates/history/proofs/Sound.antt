@@ -22,7 +22,7 @@ use Rattle.market.specs.Market.{buySide, fillable, filledIn, sellSide, tradeabl
 use Rattle.market.proofs.Fills.{all-filled}
 use Rattle.market.proofs.Picked.{all-without}
 use Rattle.market.proofs.Reaches.{reach-all}
-use Rattle.checks.specs.Meaning.{Meaning, whose}
+use Rattle.checks.specs.Meaning.{Meaning}
 use Rattle.history.specs.Entering.{rests}
 use Rattle.history.specs.Promises.{Firm}
 use Rattle.history.specs.Scopes.{shut}

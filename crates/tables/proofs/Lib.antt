@@ -1,0 +1,11 @@
+pub mod Listed
+pub mod Places
+pub mod Books
+pub mod Doing
+pub mod Rest
+pub mod Less
+pub mod Slips
+pub mod Meeting
+pub mod Trades
+pub mod Pairs
+pub mod Crossings

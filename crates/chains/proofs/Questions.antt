@@ -3,9 +3,9 @@ use mathlib.Core.Path.{_≡_, refl, sym, ap, subst, _∙_}
 use mathlib.Core.Bool.{Bool, true, false, cond}
 use mathlib.Core.List.{List, [], _∷_, _++_}
 use mathlib.Core.Logic.{⊎-elim}
-use Prim.Native.Nat.{ℕ, _+_, _-_, _≤_}
+use Prim.Native.Nat.{ℕ, zero, suc, _+_, _-_, _<_, _≤_}
 use native.Mathlib.Omega.{arith}
-use lib.ListN.{length, getD}
+use lib.ListN.{length, getD, drop}
 use Rattle.std.specs.Iters.{folded}
 use Rattle.std.specs.shelf.Lists.{kept-by, sumBy}
 use Rattle.std.specs.declared.option.Option.{Option}
@@ -96,3 +96,13 @@ best-leads {X} b o (x ∷ xs) r e =
     let f = first-best-from-best-of o x xs in
     let place : getD (x ∷ xs) (f .0) (best-of b x xs) ≡ best-of b x xs = getD-default (x ∷ xs) (f .0) (best-of b x xs) x (f .1 .0) ∙ f .2 in
     subst P (sym (e ∙ folded-best b x xs)) (f .0, f .1, place)
+
+-- ---- the item after n others
+
+pub drop-less : {X : Type 0} (n : ℕ) (x : X) (xs : List X) → 0 < n → drop n (x ∷ xs) ≡ drop (n - 1) xs
+drop-less zero x xs h = absurd (omega arith)
+drop-less (suc n) x xs h = ap (λ m. drop m xs) (omega arith)
+
+pub drop-none : {X : Type 0} (n : ℕ) → _≡_ {A = List X} (drop n []) []
+drop-none zero = refl
+drop-none (suc n) = refl

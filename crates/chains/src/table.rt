@@ -28,6 +28,7 @@ use crate::slots::peek;
 use crate::slots::set_item;
 use crate::slots::set_next;
 use crate::walks::best_from;
+use crate::walks::nth_from;
 use crate::walks::seek;
 use crate::walks::sum_from;
 
@@ -113,6 +114,14 @@ impl<'a, T: Copy, const N: usize> Chains<'a, T, N> {
             return None;
         }
         Some(self.slot(found).item)
+    }
+
+    /// The item of chain `k` that comes after `n` others that meet the test, and meets it too, if there is one.
+    pub fn nth_of<P: Test<T>>(&self, k: usize, test: &P, n: usize) -> Option<T>
+        requires { ⌜ k < N ⌝ ∗ ⌜ Kept (now self) ⌝ }
+        ensures { λ r. ⌜ r ≡ oldest (drop n (kept-by (P·Test .meets (now (test .entry))) (getD (lists (now (self .entry))) k []))) ⌝ }
+    {
+        nth_from(self.table, self.heads[k], test, n)
     }
 
     /// How many items chain `k` has.

@@ -4,7 +4,8 @@ ghost use mathlib.Core.Path.{_≡_};
 ghost use Rattle.std.specs.shelf.Lists.{sumBy, kept-by};
 ghost use Rattle.chains.specs.Slots.{nexts, items};
 ghost use Rattle.chains.specs.Chain.{Chained, itemsFrom, Sought, Met};
-ghost use Rattle.chains.specs.Asks.{saturated, preferred, best as bestOf};
+ghost use lib.ListN.{drop};
+ghost use Rattle.chains.specs.Asks.{oldest, saturated, preferred, best as bestOf};
 use crate::asks::Order;
 use crate::asks::Test;
 use crate::asks::Weight;
@@ -50,6 +51,31 @@ pub(crate) fn sum_from<T: Copy, P: Test<T>, W: Weight<T>>(
         here = slot.next;
     }
     sum
+}
+
+/// The item after `n` others from `head` on that meet the test.
+pub(crate) fn nth_from<T: Copy, P: Test<T>>(
+    table: &[Slot<T>],
+    head: usize,
+    test: &P,
+    n: usize,
+) -> Option<T>
+    requires { ⌜ Chained (nexts (now table)) head ⌝ }
+    ensures { λ r. ⌜ r ≡ oldest (drop n (kept-by (P·Test .meets (now (test .entry))) (itemsFrom (nexts (now (table .entry))) (items (now (table .entry))) head))) ⌝ }
+{
+    let mut left = n;
+    let mut here = head;
+    while here != 0 {
+        let slot = peek(table, here);
+        if test.meets(&slot.item) {
+            if left == 0 {
+                return Some(slot.item);
+            }
+            left -= 1;
+        }
+        here = slot.next;
+    }
+    None
 }
 
 /// The best item from `head` on of those that meet the test.

@@ -36,13 +36,13 @@ counts-append q ess k e h = omega (arith, counts-set q ess k (getD ess k [] ++ e
 
 -- ---- entries less
 
-less-one : (b c : Bool) (m n : ℕ) (q : book.Entry → Bool) (e : book.Entry) (es : List book.Entry) → count q es ≤ n → count q (cond b es (e ∷ es)) ≤ cond (q e) 1 0 + n
-less-one true c m n q e es h = omega arith
-less-one false c m n q e es h = omega arith
+less-one : (b : Bool) (n : ℕ) (q : book.Entry → Bool) (e : book.Entry) (es : List book.Entry) → count q es ≤ n → count q (cond b es (e ∷ es)) ≤ cond (q e) 1 0 + n
+less-one true n q e es h = omega arith
+less-one false n q e es h = omega arith
 
 count-without : (p q : book.Entry → Bool) (es : List book.Entry) → count q (without p es) ≤ count q es
 count-without p q [] = omega arith
-count-without p q (e ∷ es) = less-one (p e) true 0 (count q es) q e (without p es) (count-without p q es)
+count-without p q (e ∷ es) = less-one (p e) (count q es) q e (without p es) (count-without p q es)
 
 pub counts-without : (p q : book.Entry → Bool) (ess : List (List book.Entry)) → counts q (map (without p) ess) ≤ counts q ess
 counts-without p q [] = omega arith

@@ -34,10 +34,6 @@ oldest-seen : (xs : List Slip) → seenOldest (asks.oldest xs) ≡ oldest (map s
 oldest-seen [] = refl
 oldest-seen (x ∷ xs) = refl
 
-younger-drop : (xs : List book.Slip) → drop 1 xs ≡ younger xs
-younger-drop [] = refl
-younger-drop (x ∷ xs) = refl
-
 drop-seen : (xs : List Slip) → map seenSlip (drop 1 xs) ≡ younger (map seenSlip xs)
 drop-seen [] = refl
 drop-seen (x ∷ xs) = refl

@@ -1,5 +1,5 @@
 -- The worked cases: what is asked, in plain numbers, and the answer that is due. Assumes nothing.
-use Rattle.std.specs.Prelude.{◌≡◌, ℕ, zero, suc, cond, List, [], ◌∷◌, map, Some, None, Ok, Err, Option, Result, ◌==◌}
+use Rattle.std.specs.Prelude.{◌≡◌, ℕ, zero, suc, cond, List, [], ◌∷◌, map, Some, None, Err, Option, Result, ◌==◌}
 use Rattle.terms.specs.declared.refusal.Refusal.{Refusal}
 use Rattle.terms.specs.declared.refusal.Refusal.TheVariants.{Field}
 use Rattle.terms.specs.declared.values.Request.{Request}

@@ -10,5 +10,5 @@ abbrev pub Stands : Rates → List Notice → Type 0
 Stands r ns = (r.time ≡ clock ns) × (map firm_view r.firms ≡ firms_after ns)
 
 -- however it stood, it goes on by these notices more
-abbrev pub Goes_on : Rates → Rates → (List Notice → List Notice) → Type 0
-Goes_on before after more = (ns : List Notice) → Stands before ns → Stands after (more ns)
+abbrev pub GoesOn : Rates → Rates → (List Notice → List Notice) → Type 0
+GoesOn before after more = (ns : List Notice) → Stands before ns → Stands after (more ns)

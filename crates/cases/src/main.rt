@@ -1,5 +1,7 @@
 //! The worked cases of the rules, tried through the code.
 
+#![tactic(auto)]
+
 mod table;
 
 use std::io;

@@ -2,12 +2,12 @@
 
 ghost use Rattle.std.specs.Prelude.{◌≡◌, List, [], ◌∷◌};
 ghost use Rattle.terms.specs.Refusals.{answer};
-ghost use Rattle.terms.specs.Values.{request as requestOf, values as values_of};
+ghost use Rattle.terms.specs.Values.{request as request_of, values as values_of};
 ghost use Rattle.checks.specs.Desk.{judgement};
 ghost use Rattle.terms.specs.declared.messages.Notice.{Notice};
 ghost use Rattle.terms.specs.declared.messages.Notice.TheVariants.{Ticked};
-ghost use Rattle.cases.specs.Cases.{answer_to, due_for, order as order_at, market as marketIn, put as put_of, burst as burstOf, limited as limitedBy, event_of, told, cause_at, cases as workedCases, priced_answer, bought_answer, AllAsDue, AllAsDefined};
-ghost use Rattle.cases.specs.Playing.{Stands, Goes_on};
+ghost use Rattle.cases.specs.Cases.{answer_to, due_for, order as order_at, market as market_in, put as put_of, burst as burst_of, limited as limited_by, event_of, told, cause_at, cases as worked_cases, priced_answer, bought_answer, AllAsDue, AllAsDefined};
+ghost use Rattle.cases.specs.Playing.{Stands, GoesOn};
 
 use checks::{Check, judge_price, put_and_call};
 use rates::Rates;
@@ -64,7 +64,7 @@ fn order(side: u64, price: u64) -> RequestNumbers
 
 /// Class 1, the flag on, no venue bid.
 fn market(phase: u64, nbb: u64, nbo: u64, offer: u64, close: u64) -> ConditionNumbers
-    ensures { result ≡ marketIn phase nbb nbo offer close }
+    ensures { result ≡ market_in phase nbb nbo offer close }
 {
     ConditionNumbers {
         class: 1,
@@ -110,7 +110,7 @@ fn bought(price: u64, values: ValueNumbers, due: u8) -> Case
 }
 
 fn events(time: u64, events: u64, contracts: u64) -> Burst
-    ensures { result ≡ burstOf time events contracts }
+    ensures { result ≡ burst_of time events contracts }
 {
     Burst {
         time,
@@ -143,7 +143,7 @@ fn windows(
 
 /// The table, of which every case is answered as is due.
 pub fn worked() -> [Case; 15]
-    ensures table { result ≡ workedCases }
+    ensures table { result ≡ worked_cases }
     ensures right { AllAsDue }
     ensures defined { AllAsDefined }
 {
@@ -223,7 +223,7 @@ fn priced_answer(request: RequestNumbers, conditions: ConditionNumbers) -> Resul
 }
 
 fn bought_answer(request: RequestNumbers, values: ValueNumbers) -> Result<(), Refusal>
-    ensures { result ≡ bought_answer (requestOf request) (values_of values) }
+    ensures { result ≡ bought_answer (request_of request) (values_of values) }
 {
     let request = Request::from_numbers(request)?;
     let values = Values::from_numbers(values)?;
@@ -231,7 +231,7 @@ fn bought_answer(request: RequestNumbers, values: ValueNumbers) -> Result<(), Re
 }
 
 fn limited(kind: u64, limit: u64, interval: u64) -> Notice
-    ensures { result ≡ limitedBy kind limit interval }
+    ensures { result ≡ limited_by kind limit interval }
 {
     let limit = LimitNumbers {
         scope: ScopeNumber::Acronym(1),
@@ -275,14 +275,14 @@ fn event_of(contracts: u64) -> Notice
 
 /// One notice more, and the cause that the firm has.
 fn tell(rates: &mut Rates, notice: Notice) -> u8
-    ensures on { Goes_on rates.old rates.new (λ ns. notice ∷ ns) }
+    ensures on { GoesOn rates.old rates.new (λ ns. notice ∷ ns) }
     ensures cause { (ns : List Notice) → Stands rates.old ns → result ≡ cause_at (notice ∷ ns) }
 {
     rates.tell(notice).acronym
 }
 
 fn tell_burst(rates: &mut Rates, burst: Burst)
-    ensures { Goes_on rates.old rates.new (told burst) }
+    ensures { GoesOn rates.old rates.new (told burst) }
 {
     let event = event_of(burst.contracts);
     let _ = tell(rates, Notice::Ticked { time: burst.time });

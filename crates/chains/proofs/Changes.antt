@@ -1,12 +1,12 @@
 -- The struct after one change of chain k: an item more at its end, an item less, an item in the place of another.
-use Rattle.std.proofs.Common.{◌≡◌, ℕ, suc, ◌+◌, ◌-◌, ◌<◌, ◌≤◌, ◌≢◌, ◌⊎◌, List, [], ◌∷◌, ◌++◌, map, length, get_or, set, sym, refl, ap, ◌∙◌, subst, ⊎_elim, arith}
+use Rattle.std.proofs.Common.{◌≡◌, ℕ, suc, ◌+◌, ◌-◌, ◌<◌, ◌≤◌, ◌≢◌, List, [], ◌∷◌, ◌++◌, map, length, get_or, set, sym, refl, ap, ◌∙◌, subst, ⊎_elim, arith}
 use Rattle.std.proofs.lemmas.List.{length-map, length-set, get_or-map, map-set, get_or-set_same, get_or-set_other, ext_get_or}
 use Rattle.std.proofs.lemmas.Bool.{cases_eq}
 use Rattle.chains.specs.declared.table.Chains.{Chains}
 use Rattle.chains.specs.Slots.{nexts, items}
-use Rattle.chains.specs.Chain.{places_from, at, pick, In, Linked}
+use Rattle.chains.specs.Chain.{places_from, pick, In, Linked}
 use Rattle.chains.specs.Sound.{Layout, Sound, walks}
-use Rattle.chains.specs.Lists.{lists, places, appended}
+use Rattle.chains.specs.Lists.{lists, appended}
 use Rattle.chains.specs.Steps.{Walked, ahead, after, Unlinked}
 use Rattle.chains.proofs.Link.{in_left, in_right, in_mid, once_mid, linked_first, linked_rest, places_le, walk_is, onward}
 use Rattle.chains.proofs.Pick.{at_set_same, pick_none, pick_append, pick_mid, pick_frame}

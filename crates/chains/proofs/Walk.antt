@@ -1,5 +1,5 @@
 -- A walk along a chain: one place further, less is left, and what it has passed.
-use Rattle.std.proofs.Common.{◌≡◌, ℕ, ◌+◌, ◌<◌, List, [], ◌∷◌, ◌++◌, length, get_or, sym, refl, ap, ◌∙◌, subst, arith}
+use Rattle.std.proofs.Common.{◌≡◌, ℕ, ◌<◌, List, [], ◌∷◌, ◌++◌, length, get_or, sym, refl, ap, ◌∙◌, subst, arith}
 use Rattle.std.proofs.lemmas.List.{append_assoc}
 use Rattle.chains.specs.Chain.{places_from, at, pick, items_from, Chained, Passed}
 use Rattle.chains.proofs.Link.{last_append, places_none, onward}

@@ -1,11 +1,11 @@
 -- What the questions and changes mean, on the list of one chain: p is a test, beats an order.
--- The items that meet p are kept-by p xs.
+-- The items that meet p are filter p xs.
 use Rattle.std.specs.Prelude.{◌≡◌, ℕ, ◌-◌, ◌^◌, min, Bool, true, false, cond, not, List, [], ◌∷◌, ◌++◌, length, Some, None, fold, filter, Option, slice_index_or}
-use Rattle.std.specs.List.{IsFirstBest, AllByRecursion as All}
+use Rattle.std.specs.List.{IsFirstBest, AllByRecursion}
 
 -- no item meets the test
 abbrev pub NoneOf : {X : Type 0} → (X → Bool) → List X → Type 0
-NoneOf p xs = All (λ x. p x ≡ false) xs
+NoneOf p xs = AllByRecursion (λ x. p x ≡ false) xs
 
 -- the first item
 abbrev pub oldest : {X : Type 0} → List X → Option X

@@ -4,6 +4,8 @@
 //! nothing: index 0 ends every chain. The places in no chain are on a free chain, and are used again.
 //! Nothing is allocated, appending takes constant time, and a walk reads each place of one chain once.
 
+#![tactic(auto)]
+
 mod asks;
 mod slots;
 mod table;

@@ -4,7 +4,7 @@ ghost use Rattle.std.specs.Prelude.{◌≡◌, ◌+◌, ◌-◌, ◌<◌, ◌≤
 ghost use Rattle.chains.specs.Sound.{Kept};
 ghost use Rattle.chains.specs.Slots.{nexts, items};
 ghost use Rattle.chains.specs.Chain.{at as standing};
-ghost use Rattle.chains.specs.Asks.{oldest, Became, without_first, without_all, replaced_first, best as bestOf, Leads, saturated};
+ghost use Rattle.chains.specs.Asks.{oldest, Became, without_first, without_all, replaced_first, best as best_of, Leads, saturated};
 ghost use Rattle.chains.specs.Lists.{lists, places as places_of, total, changed, appended, Undoes};
 ghost use Rattle.chains.specs.Steps.{Walked, Unlinked, Found};
 ghost use Rattle.std.specs.Cmp.{IsStrictWeakOrder};
@@ -132,7 +132,7 @@ impl<'a, T: Copy, const N: usize> Chains<'a, T, N> {
     /// The best item of chain `k` of those that meet the test, the first among equals.
     pub fn best<P: Test<T>, O: Order<T>>(&self, k: usize, test: &P, order: &O) -> Option<T>
         requires { (k < N) × (Kept self.now) }
-        ensures best { result ≡ bestOf (O.Order.better order.now) (filter (P.Test.meets test.now) (slice_index_or (lists self.now) k [])) }
+        ensures best { result ≡ best_of (O.Order.better order.now) (filter (P.Test.meets test.now) (slice_index_or (lists self.now) k [])) }
         ensures leads { IsStrictWeakOrder (O.Order.better order.now) → Leads (O.Order.better order.now) (filter (P.Test.meets test.now) (slice_index_or (lists self.now) k [])) result }
     {
         best_from(self.table, self.heads[k], test, order)

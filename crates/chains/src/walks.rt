@@ -3,7 +3,7 @@
 ghost use Rattle.std.specs.Prelude.{◌≡◌, drop, sum_by, filter};
 ghost use Rattle.chains.specs.Slots.{nexts, items};
 ghost use Rattle.chains.specs.Chain.{Chained, items_from, Sought, Met};
-ghost use Rattle.chains.specs.Asks.{oldest, saturated, preferred, best as bestOf};
+ghost use Rattle.chains.specs.Asks.{oldest, saturated, preferred, best as best_of};
 
 use crate::asks::{Order, Test, Weight};
 use crate::slots::{Slot, peek};
@@ -82,7 +82,7 @@ pub(crate) fn best_from<T: Copy, P: Test<T>, O: Order<T>>(
     order: &O,
 ) -> Option<T>
     requires { Chained (nexts table.now) head }
-    ensures { result ≡ bestOf (O.Order.better order.now) (filter (P.Test.meets test.now) (items_from (nexts table.now) (items table.now) head)) }
+    ensures { result ≡ best_of (O.Order.better order.now) (filter (P.Test.meets test.now) (items_from (nexts table.now) (items table.now) head)) }
 {
     let mut best = None;
     let mut here = head;

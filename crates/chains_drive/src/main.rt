@@ -1,5 +1,7 @@
 //! Drives chains of two record types through random operations, and compares every answer with a plain Vec.
 
+#![tactic(auto)]
+
 mod drive;
 mod mirror;
 mod random;

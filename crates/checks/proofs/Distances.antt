@@ -1,5 +1,5 @@
 -- The distances grow with the reference, are at most 400, and class 3 has twice those of class 1. Assumes nothing.
-use Rattle.std.proofs.Common.{◌≡◌, ℕ, zero, suc, ◌+◌, ◌<◌, ◌≤◌, Bool, true, false, cond, ◌&&◌, T, ltb, leb, List, [], ◌∷◌, map, length, get_or, refl, zero-le, le_trans, le_refl, le_of_suc-le-suc, not-suc-le-zero, arith, lit<, leb→le}
+use Rattle.std.proofs.Common.{◌≡◌, ℕ, zero, suc, ◌+◌, ◌<◌, ◌≤◌, Bool, true, ◌&&◌, T, leb, List, [], ◌∷◌, map, length, get_or, refl, zero-le, le_trans, le_refl, le_of_suc-le-suc, not-suc-le-zero, arith, leb→le}
 use Rattle.terms.specs.declared.kinds.Class.{Class}
 use Rattle.terms.specs.declared.kinds.Class.TheVariants.{One, Two, Three, Four}
 use Rattle.terms.specs.Ranges.{first_test, second_test}

@@ -1,5 +1,5 @@
 -- What the price desk answers to a question in plain numbers. Assumes nothing.
-use Rattle.std.specs.Prelude.{Some, None, Option}
+use Rattle.std.specs.Prelude.{Some, Option}
 use Rattle.terms.specs.declared.values.RequestNumbers.{RequestNumbers}
 use Rattle.terms.specs.declared.values.ConditionNumbers.{ConditionNumbers}
 use Rattle.terms.specs.Values.{◌then◌, request, conditions}

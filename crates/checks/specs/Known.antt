@@ -16,7 +16,7 @@ use Rattle.terms.specs.Refusals.{answer}
 use Rattle.terms.specs.Tables.{at, put}
 use Rattle.terms.specs.Values.{◌then◌, request, values}
 use Rattle.checks.specs.declared.pricing.Basis.{Basis}
-use Rattle.checks.specs.declared.pricing.Basis.TheVariants as judged-by
+use Rattle.checks.specs.declared.pricing.Basis.TheVariants as judged_by
 use Rattle.checks.specs.declared.valuing.Case.{Case}
 use Rattle.checks.specs.Judged.{Ranged, zero_ranged}
 use Rattle.checks.specs.LimitPrice.{basis, limit_price, turned_down, judged_on, past}
@@ -103,7 +103,7 @@ limit_price_ranged q v = on_basis (basis q v.conditions)
     by_test false = zero_ranged
 
     on_basis : (b : Basis) → Ranged (answer (judged_on q b))
-    on_basis judged-by.Quote = zero_ranged
-    on_basis (judged-by.Exempt e) = zero_ranged
-    on_basis judged-by.NoReference = zero_ranged
-    on_basis (judged-by.Against p d) = by_test (past q.side q.price.value p.value d)
+    on_basis judged_by.Quote = zero_ranged
+    on_basis (judged_by.Exempt e) = zero_ranged
+    on_basis judged_by.NoReference = zero_ranged
+    on_basis (judged_by.Against p d) = by_test (past q.side q.price.value p.value d)

@@ -1,6 +1,5 @@
 -- Limit price: the reference, the exemptions, the distance, and what they make of a request. Assumes nothing.
 use Rattle.std.specs.Prelude.{◌≡◌, ℕ, ◌+◌, ◌<◌, ◌≤◌, Bool, true, false, cond, not, ◌&&◌, List, [], ◌∷◌, Some, None, Ok, Err, Option, Result, nat_le, nat_lt, slice_index}
-use Rattle.terms.specs.declared.bounded.Bounded.{Bounded}
 use Rattle.terms.specs.declared.kinds.Side.{Side}
 use Rattle.terms.specs.declared.kinds.Side.TheVariants.{Buy, Sell}
 use Rattle.terms.specs.declared.kinds.Kind.{Kind}
@@ -19,7 +18,7 @@ use Rattle.terms.specs.declared.values.Request.{Request}
 use Rattle.terms.specs.Refusals.{answer}
 use Rattle.terms.specs.Ranges.{Price}
 use Rattle.checks.specs.declared.pricing.Basis.{Basis}
-use Rattle.checks.specs.declared.pricing.Basis.TheVariants as judged-by
+use Rattle.checks.specs.declared.pricing.Basis.TheVariants as judged_by
 use Rattle.checks.specs.declared.pricing.Exemption.{Exemption}
 use Rattle.checks.specs.declared.pricing.Exemption.TheVariants as exempt
 
@@ -140,16 +139,16 @@ past Buy price reference distance = nat_lt (reference + distance) price
 past Sell price reference distance = nat_lt (price + distance) reference
 
 abbrev pub against : Class → Option Price → Basis
-against class None = judged-by.NoReference
-against class (Some p) = judged-by.Against p (distance class p.value)
+against class None = judged_by.NoReference
+against class (Some p) = judged_by.Against p (distance class p.value)
 
 abbrev pub unless_exempt : Option Exemption → Basis → Basis
 unless_exempt None b = b
-unless_exempt (Some e) b = judged-by.Exempt e
+unless_exempt (Some e) b = judged_by.Exempt e
 
 -- what a request is judged by
 abbrev pub basis_of : Kind → Request → Conditions → Basis
-basis_of Quote q c = judged-by.Quote
+basis_of Quote q c = judged_by.Quote
 basis_of Order q c = unless_exempt (exemption q c.phase) (against c.class (reference q.side c))
 
 abbrev pub basis : Request → Conditions → Basis
@@ -157,20 +156,20 @@ basis q c = basis_of q.kind q c
 
 -- the distance that a request is allowed, 0 where none is asked for
 abbrev pub allowed : Basis → ℕ
-allowed judged-by.Quote = 0
-allowed (judged-by.Exempt e) = 0
-allowed judged-by.NoReference = 0
-allowed (judged-by.Against p d) = d
+allowed judged_by.Quote = 0
+allowed (judged_by.Exempt e) = 0
+allowed judged_by.NoReference = 0
+allowed (judged_by.Against p d) = d
 
 abbrev pub turned_down : Bool → Result (Unit {0}) Refusal
 turned_down true = Err LimitPrice
 turned_down false = Ok tt
 
 abbrev pub judged_on : Request → Basis → Result (Unit {0}) Refusal
-judged_on q judged-by.Quote = Ok tt
-judged_on q (judged-by.Exempt e) = Ok tt
-judged_on q judged-by.NoReference = Ok tt
-judged_on q (judged-by.Against p d) = turned_down (past q.side q.price.value p.value d)
+judged_on q judged_by.Quote = Ok tt
+judged_on q (judged_by.Exempt e) = Ok tt
+judged_on q judged_by.NoReference = Ok tt
+judged_on q (judged_by.Against p d) = turned_down (past q.side q.price.value p.value d)
 
 abbrev pub limit_price : Request → Conditions → Result (Unit {0}) Refusal
 limit_price q c = judged_on q (basis q c)

@@ -1,5 +1,7 @@
 //! What a check is, piles of checks, and the rules by which an entry is turned down on its way in.
 
+#![tactic(auto)]
+
 mod checking;
 mod desk;
 mod piling;

@@ -3,7 +3,7 @@
 ghost use Rattle.std.specs.Prelude.{◌≡◌, ℕ, ◌≤◌, true, Some, None, slice_index};
 ghost use Rattle.terms.specs.declared.kinds.Kind.TheVariants.{Quote};
 ghost use Rattle.terms.specs.Refusals.{answer};
-ghost use Rattle.checks.specs.LimitPrice.{crossed as crossedBy, facing as facingOf, own as own_of, usable as usableBy, clear_close, reference as referenceFor, exemption as exemptionOf, band as bandOf, distances, distance as distanceFor, Scaled, basis, allowed, limit_price, Edges};
+ghost use Rattle.checks.specs.LimitPrice.{crossed as crossed_by, facing as facing_of, own as own_of, usable as usable_by, clear_close, reference as reference_for, exemption as exemption_of, band as band_of, distances, distance as distance_for, Scaled, basis, allowed, limit_price, Edges};
 
 use terms::{BidOffer, Class, Conditions, Kind, Phase, Price, Refusal, Request, Role, Side};
 
@@ -34,7 +34,7 @@ const DISTANCES: [[u32; 6]; 4] = [
 
 /// Whether both sides are there with the bid at or above the offer.
 fn crossed(quotation: &BidOffer) -> bool
-    ensures { result ≡ crossedBy quotation.now }
+    ensures { result ≡ crossed_by quotation.now }
 {
     if let Some(bid) = quotation.bid {
         if let Some(offer) = quotation.offer {
@@ -46,7 +46,7 @@ fn crossed(quotation: &BidOffer) -> bool
 
 /// What an order would trade with: for a buy the offer, for a sell the bid.
 fn facing(side: Side, quotation: &BidOffer) -> Option<Price>
-    ensures { result ≡ facingOf side quotation.now }
+    ensures { result ≡ facing_of side quotation.now }
 {
     match side {
         Side::Buy => quotation.offer,
@@ -66,14 +66,14 @@ fn own(side: Side, quotation: &BidOffer) -> Option<Price>
 
 /// Whether the national best bid and offer count.
 pub fn usable(conditions: &Conditions) -> bool
-    ensures { result ≡ usableBy conditions.now }
+    ensures { result ≡ usable_by conditions.now }
 {
     conditions.flag && !crossed(&conditions.national)
 }
 
 /// What a buy or a sell is held against, before any exemption.
 pub fn reference(side: Side, conditions: &Conditions) -> Option<Price>
-    ensures { result ≡ referenceFor side conditions.now }
+    ensures { result ≡ reference_for side conditions.now }
 {
     let counts = usable(conditions);
     if counts {
@@ -112,7 +112,7 @@ fn clear_close(side: Side, own: Option<Price>, close: Option<Price>) -> Option<P
 
 /// Why a request is not held to a reference in a phase, if it is not.
 pub fn exemption_of(request: &Request, phase: Phase) -> Option<Exemption>
-    ensures { result ≡ exemptionOf request.now phase }
+    ensures { result ≡ exemption_of request.now phase }
 {
     if request.marks.stop {
         return Some(Exemption::Stop);
@@ -126,7 +126,7 @@ pub fn exemption_of(request: &Request, phase: Phase) -> Option<Exemption>
 
 /// The band that a price lies in, from 0.
 fn band(price: u32) -> usize
-    ensures place { result ≡ bandOf price }
+    ensures place { result ≡ band_of price }
     ensures bound { result ≤ 5 }
 {
     match price {
@@ -149,7 +149,7 @@ fn tabled(class: Class, band: usize) -> u32
 
 /// How many cents an order may be priced through a reference.
 pub fn distance(class: Class, reference: Price) -> u32
-    ensures value { result ≡ distanceFor class reference.value }
+    ensures value { result ≡ distance_for class reference.value }
     ensures bound { result ≤ 400 }
     ensures scaled { Scaled class reference.value result }
 {
@@ -180,7 +180,7 @@ pub fn basis_of(request: &Request, conditions: &Conditions) -> Basis
 pub fn limit_price(request: &Request, conditions: &Conditions) -> Result<(), Refusal>
     ensures value { result ≡ limit_price request.now conditions.now }
     ensures edges { Edges request.now conditions.now result }
-    ensures free { referenceFor request.now.side conditions.now ≡ None → answer result ≡ 0 }
+    ensures free { reference_for request.now.side conditions.now ≡ None → answer result ≡ 0 }
     ensures stops { request.now.marks.stop ≡ true → answer result ≡ 0 }
     ensures quotes { request.now.kind ≡ Quote → answer result ≡ 0 }
 {

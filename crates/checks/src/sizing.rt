@@ -3,7 +3,7 @@
 ghost use Rattle.std.specs.Prelude.{◌≡◌, length, replicate, ◌==◌};
 ghost use Rattle.terms.specs.declared.kinds.LimitKind.TheVariants.{Size as OfSize};
 ghost use Rattle.terms.specs.Kinds.{limit_kind_number};
-ghost use Rattle.checks.specs.Sizes.{exceeds as exceedsBy, unlimited, sized, set_for, size_after, size, size_lawful};
+ghost use Rattle.checks.specs.Sizes.{exceeds as exceeds_by, unlimited, sized, set_for, size_after, size, size_lawful};
 
 use crate::checking::{Check, NO_CAUSE, acronym_of};
 use crate::tables::{place, put_at, read_at};
@@ -18,7 +18,7 @@ pub struct SizeLimits {
 
 // Whether a limit is set, and lies below the contracts.
 fn exceeds(limit: u64, contracts: u64) -> bool
-    ensures { result ≡ exceedsBy limit contracts }
+    ensures { result ≡ exceeds_by limit contracts }
 {
     limit != 0 && contracts > limit
 }

@@ -1,5 +1,7 @@
 //! The fields of a call: read from plain numbers into their types, or refused where one is out of its range.
 
+#![tactic(auto)]
+
 mod orders;
 mod ranges;
 

@@ -2,7 +2,7 @@
 
 ghost use Rattle.std.specs.Prelude.{◌≡◌};
 ghost use Rattle.terms.specs.Kinds.{reach_number, flag_number};
-ghost use Rattle.terms.specs.Ranges.{within as liesWithin};
+ghost use Rattle.terms.specs.Ranges.{within as lies_within};
 ghost use Rattle.history.specs.Fields.{good_scope, good_conditions, good_values, good_limit, good_kill};
 ghost use Rattle.fields.specs.Admits.{Admits, out_of_range};
 
@@ -23,7 +23,7 @@ const LONGEST_INTERVAL: u64 = 86_400_000;
 const SIZE: u64 = 4;
 
 fn within(low: u64, high: u64, n: u64) -> bool
-    ensures { result ≡ liesWithin low high n }
+    ensures { result ≡ lies_within low high n }
 {
     low <= n && n <= high
 }

@@ -1,5 +1,5 @@
 -- What an entry comes to, from what the gate asked and did. Assumes nothing.
-use Rattle.std.proofs.Common.{◌≡◌, ℕ, None, Ok, Err, Result, sym, refl, ap, ◌∙◌, subst}
+use Rattle.std.proofs.Common.{◌≡◌, ℕ, None, Ok, Err, Result, sym, ap, ◌∙◌, subst}
 use Rattle.terms.specs.Refusals.{number}
 use Rattle.terms.specs.Tables.{at}
 use Rattle.terms.specs.declared.events.Effect.{Effect}

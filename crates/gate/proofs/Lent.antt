@@ -1,5 +1,5 @@
 -- A row that is lent at its place and changed there. Assumes nothing.
-use Rattle.std.proofs.Common.{◌≡◌, ℕ, suc, ◌<◌, ◌≤◌, false, List, map, length, get_or, set, sym, refl, ap, ◌∙◌, arith}
+use Rattle.std.proofs.Common.{◌≡◌, ℕ, suc, ◌<◌, ◌≤◌, false, List, map, length, get_or, set, sym, ap, ◌∙◌, arith}
 use Rattle.terms.specs.Tables.{at, put}
 use Rattle.terms.proofs.Tables.{at_map, put_map, length_map}
 use Rattle.checks.specs.Meaning.{Meaning}

@@ -6,7 +6,6 @@ use Rattle.checks.specs.Meaning.{Lawful, Meaning}
 use Rattle.history.specs.Acts.{call_of}
 use Rattle.history.specs.State.{State, new_gate}
 use Rattle.history.specs.Step.{Run, Step}
-use Rattle.history.specs.Promises.{Promised}
 use Rattle.history.proofs.Laws.{goes_on}
 use Rattle.history.proofs.Promised.{promised}
 use Rattle.gate.specs.Played.{Answered, Keeps, Leads, onto}

@@ -1,5 +1,5 @@
 -- Calls that are refused and calls that are accepted, put together from what the gate did. Assumes nothing.
-use Rattle.std.proofs.Common.{◌≡◌, ℕ, suc, ◌+◌, ◌<◌, ◌≤◌, Bool, true, false, cond, not, ◌&&◌, List, map, length, get_or, set, Some, None, Ok, Err, Option, sym, refl, ap, ◌∙◌, subst, arith}
+use Rattle.std.proofs.Common.{◌≡◌, ℕ, suc, ◌+◌, ◌<◌, ◌≤◌, Bool, true, false, cond, not, ◌&&◌, List, map, length, get_or, set, Some, None, Ok, Option, sym, refl, ap, ◌∙◌, arith}
 use Rattle.terms.specs.Answers.{unless}
 use Rattle.terms.specs.declared.events.Effect.{Effect}
 use Rattle.terms.specs.declared.events.Event.TheVariants as event
@@ -14,7 +14,6 @@ use Rattle.market.specs.Market.{Swept, Struck, buy_side, dropped, sell_side}
 use Rattle.market.specs.Sweeps.{swept_sum, swept_up_to}
 use Rattle.checks.specs.Meaning.{Meaning}
 use Rattle.fields.specs.Admits.{out_of_range}
-use Rattle.history.specs.State as state
 use Rattle.history.specs.State.{State, blank, is_leaving, is_open, leaving, nothing_waits, opened, receipted_row, row, with_book, with_out, with_row}
 use Rattle.history.specs.Scopes.{hold_scope}
 use Rattle.history.specs.Trips.{tell}

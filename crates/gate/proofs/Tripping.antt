@@ -1,17 +1,16 @@
 -- A cause of 0 holds and sweeps nothing, and a trip goes by its firm. Assumes nothing.
-use Rattle.std.proofs.Common.{◌≡◌, ℕ, Bool, true, false, cond, ◌&&◌, ◌||◌, eqb, List, length, sym, refl, ap, ◌∙◌, ap₂, ⊎_elim}
+use Rattle.std.proofs.Common.{◌≡◌, ℕ, Bool, true, false, ◌&&◌, List, length, sym, refl, ap, ◌∙◌, ap₂, ⊎_elim}
 use mathlib.Core.Path.{fun_ext}
 use Rattle.std.proofs.lemmas.Bool.Decides.{eqb_tells}
 use Rattle.terms.specs.declared.messages.Causes.{Causes}
 use Rattle.terms.specs.declared.messages.ScopeNumber.{ScopeNumber}
 use Rattle.terms.specs.declared.messages.ScopeNumber.TheVariants.{Acronym, Login}
 use Rattle.terms.proofs.Tables.{put_same}
-use Rattle.market.specs.Book.{Book, Entry, reaches, taken_off, totals}
+use Rattle.market.specs.Book.{Book, reaches, taken_off, totals}
 use Rattle.market.specs.Sweeps.{swept_sum, swept_up_to}
 use Rattle.market.proofs.Sweeps.{nobodys, none_off, none_totals}
 use Rattle.checks.specs.Meaning.{Meaning, no_cause}
-use Rattle.history.specs.State.{State, blank, first_cause, hold_of, is_open, nonzero, row, with_book, with_hold, with_hold_of, with_row}
-use Rattle.history.specs.State as state
+use Rattle.history.specs.State.{State, blank, first_cause, hold_of, is_open, row, with_book, with_hold, with_hold_of, with_row}
 use Rattle.history.specs.Scopes.{hold_scope}
 use Rattle.history.specs.Trips.{in_trip, trip}
 use Rattle.history.specs.Laws.{trip_cut}
@@ -72,4 +71,4 @@ module _ {m : Meaning} (s : State m) where
   pub tripped_sum :
       (login n : ℕ) (c : Causes) → length s.rows ≡ 24 → n ≡ swept_sum (trip_cut s login c) 24 s.book
       → n ≡ totals (in_trip s login c) s.book.resting
-  tripped_sum login n c len e = e ∙ (sweeps_by_login m).trip-sum s login c len
+  tripped_sum login n c len e = e ∙ (sweeps_by_login m).trip_sum s login c len

@@ -1,5 +1,4 @@
 -- What a kill and a trip sweep of each login, as the definitions say it. Assumes nothing.
-use Rattle.std.specs.Prelude.{ℕ}
 use Rattle.terms.specs.Kinds.{reach_number}
 use Rattle.market.specs.Sweeps as market
 use Rattle.checks.specs.Meaning.{Meaning}

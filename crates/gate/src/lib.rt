@@ -1,5 +1,7 @@
 //! The gate: thirteen calls over any market and any checks.
 
+#![tactic(auto)]
+
 mod cuts;
 mod desk;
 mod entries;

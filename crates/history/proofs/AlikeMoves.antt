@@ -1,7 +1,7 @@
 -- What telling, a row and a hold do to what one acronym sees: the same done to gates that are alike leaves them alike, and what is another's
 -- is not seen. Assumes nothing.
 use Rattle.std.proofs.Common.{◌≡◌, ℕ, zero, suc, ◌+◌, ◌<◌, ◌≤◌, Bool, true, false, cond, ◌||◌, eqb, List, [], ◌∷◌, length, get_or, sym, refl, ap, ◌∙◌, ap₂, ⊎_elim, arith}
-use Rattle.std.specs.List.{AllByRecursion as All}
+use Rattle.std.specs.List.{AllByRecursion}
 use Rattle.std.proofs.lemmas.Bool.{or_parts}
 use Rattle.std.proofs.lemmas.Bool.Decides.{eqb_tells}
 use Rattle.terms.specs.declared.messages.Notice.{Notice}
@@ -64,7 +64,7 @@ module _ (m : Meaning) (a : ℕ) (firm : Firm a) where
 
   -- what rests is as much a's as it was
   abbrev pub AsBefore : State m → ℕ → Row → Type 0
-  AsBefore s l r = All (All (λ e. mine m a (with_row l r s) e ≡ mine m a s e)) s.book.resting
+  AsBefore s l r = AllByRecursion (AllByRecursion (λ e. mine m a (with_row l r s) e ≡ mine m a s e)) s.book.resting
 
   module _ (s : State m) (l : ℕ) (r : Row) (k : Sound m s) (low : 1 ≤ l) (high : l ≤ 24) where
     row_there : (i : ℕ) → row (with_row l r s) i ≡ cond (eqb l i) r (row s i)
@@ -86,7 +86,7 @@ module _ (m : Meaning) (a : ℕ) (firm : Firm a) where
 
     -- the row is as much a's as it was
     pub equal_before : eqb r.acronym a ≡ has a s l → AsBefore s l r
-    equal_before e = all_from_each (All Same) (all_from_each Same same) s.book.resting
+    equal_before e = all_from_each (AllByRecursion Same) (all_from_each Same same) s.book.resting
       where
         Same : Entry → Type 0
         Same x = mine m a (with_row l r s) x ≡ mine m a s x
@@ -103,7 +103,7 @@ module _ (m : Meaning) (a : ℕ) (firm : Firm a) where
 
     -- the login rests nothing, for it was not open
     pub shut_before : is_open (row s l) ≡ false → AsBefore s l r
-    shut_before c = all_weak (All (OpenIn s.rows)) (All (λ e. mine m a (with_row l r s) e ≡ mine m a s e)) s.book.resting
+    shut_before c = all_weak (AllByRecursion (OpenIn s.rows)) (AllByRecursion (λ e. mine m a (with_row l r s) e ≡ mine m a s e)) s.book.resting
         (λ es x. all_weak (OpenIn s.rows) (λ e. mine m a (with_row l r s) e ≡ mine m a s e) es (λ e o. has_there e.login ∙ ⊎_elim
         (λ p. let q : l ≡ e.login = p.1 in mixed _ (sym o ∙ ap (λ (i : ℕ). is_open (row s i)) (sym q) ∙ c))
         (λ p. rw p.0)

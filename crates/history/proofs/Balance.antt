@@ -133,13 +133,13 @@ module _ (m : Meaning) (a : ℕ) where
       (s : State m) (t : Ticket) → Sound m s → refusal s (Enter t) ≡ None → (v : Verdict) → verdict s t ≡ v
       → EnterMoved s (verdict_leaves t s v) t (verdict_answer t s v)
   verdict_moves s t k e (turned n) v = turned_down s (verdict_leaves t s (turned n)) t (verdict_answer t s (turned n))
-      (turned_some (judged_of s t) _ n v) (noticed_moves m a s t.login (TurnedDown (asked s t) n) (enter_ok m s t e).is_open k)
+      (turned_some (judged_of s t) _ n v) (noticed_moves m a s t.login (TurnedDown (asked s t) n) (enter_ok m s t e).open_is k)
   verdict_moves s t k e (cannot_rest x) v = refused_entry s t (verdict_answer t s (cannot_rest x)) (number_some x) refl
   verdict_moves s t k e rests v =
       let f = enter_ok m s t e in
       go (in_market m a s) (in_market m a (with_entry t s)) (in_market m a (verdict_leaves t s rests)) _ _ _
       (rest_moves m a s t f.series_low f.series_high k)
-      (noticed_moves m a (with_entry t s) t.login (Entered (asked s t)) f.is_open (sound_rest m s t f.is_open k))
+      (noticed_moves m a (with_entry t s) t.login (Entered (asked s t)) f.open_is (sound_rest m s t f.open_is k))
       (zero_if (has a s t.login))
     where
       go : (w v u x y z : ℕ) → v ≡ w + x → u + z ≡ v → y ≡ 0 → w + x ≡ (u + y) + z

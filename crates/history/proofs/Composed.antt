@@ -39,7 +39,7 @@ module _ (m : Meaning) where
   trip_after s s₁ s₂ s₃ login c len e₁ e₂ e₃ =
       e₃
       ∙ ap (hold_scope (Acronym (row s login).acronym) c.acronym)
-      (e₂ ∙ ap (hold_scope (Login login) c.login) (e₁ ∙ ap (λ (b : Book). with_book b s) ((sweeps_by_login m).trip-left s login c len)))
+      (e₂ ∙ ap (hold_scope (Login login) c.login) (e₁ ∙ ap (λ (b : Book). with_book b s) ((sweeps_by_login m).trip_left s login c len)))
 
   pub notice_after :
       (s s₁ s₂ : State m) (login : ℕ) (n : Notice) (c : Causes) → c ≡ causes_of n s → s₁ ≡ tell n s → s₂ ≡ trip login c s₁ → s₂ ≡ noticed login n s
@@ -59,7 +59,7 @@ module _ (m : Meaning) where
       → n ≡ swept_sum (kill_cut s scope reach) 24 s.book → s₁ ≡ with_book (swept_up_to (kill_cut s scope reach) 24 s.book) s
       → s₂ ≡ hold_scope scope (kill_cause block) s₁ → Step s (event.Kill scope reach block (Ok n)) s₂
   kill_step s s₁ s₂ scope reach block n none len sum e₁ e₂ =
-      let cancelled = sum ∙ (sweeps_by_login m).kill-sum s scope reach len in
+      let cancelled = sum ∙ (sweeps_by_login m).kill_sum s scope reach len in
       let left = e₁ ∙ ap (λ (b : Book). with_book b s) ((sweeps_by_login m).kill_left s scope reach len) in (
         ap amount (ap (λ (x : ℕ). Ok x) cancelled ∙ ap (λ (o : Option Refusal). given o (totals (in_kill s scope reach) s.book.resting)) (sym none)),
         e₂ ∙ ap (hold_scope scope (kill_cause block)) left ∙ ap (λ (o : Option Refusal). unless o s (done s (Kill scope reach block))) (sym none),

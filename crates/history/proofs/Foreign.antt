@@ -162,7 +162,7 @@ module _ (m : Meaning) (a : ℕ) (firm : Firm a) where
       (unlike_row m a firm s1 l r k1 b.0 b.1 (equal_before m a firm s1 l r k1 b.0 b.1 (other ∙ sym h)) other h)
       (unlike_told m a firm (with_row l r s1) (Closed (row s l).acronym l) w.eight h))
   foreign_done s (Limit x) w e h = unlike_told m a firm s (Limited (scope_acronym s x.scope) x) w.eight (scope_named s x.scope ∙ h)
-  foreign_done s (Enter t) w e h = unlike_enter s t (verdict s t) w (enter_ok m s t e).is_open h
+  foreign_done s (Enter t) w e h = unlike_enter s t (verdict s t) w (enter_ok m s t e).open_is h
   foreign_done s (Cancel l n) w e h = unlike_off m a firm s (is_for l n)
       (λ x y. ap (λ (i : ℕ). has a s i) (eqb-true x.login l (and_parts _ _ y).0) ∙ h)
   foreign_done s (Take l) w e h = let f = take_ok m s l e in unlike_kept s l _ w.sound f.0 f.1 refl h
@@ -172,17 +172,17 @@ module _ (m : Meaning) (a : ℕ) (firm : Firm a) where
       let S = put s.book.slips l (younger (waiting_of s.book l)) in
       let s1 = with_book (dropped s.book l) s in
       let k1 : Sound m s1 = record {
-        table = table_drop w.sound.table l _ g.login-low g.login-high
+        table = table_drop w.sound.table l _ g.login_low g.login_high
             g.not_free;
         holds8 = w.sound.holds8;
         valued16 = w.sound.valued16;
       } in
       let r = receipted_row (at [] S l) (row s l) in
       let other = receipted_other (at [] S l) (row s l) (not_nobody m a firm) h in
-      alike_trans m a s s1 _ (unlike_slips s l _ w.sound g.login-low g.login-high h)
-      (unlike_row m a firm s1 l r k1 g.login-low g.login-high
-      (equal_before m a firm s1 l r k1 g.login-low g.login-high (other ∙ sym h)) other h)
-  foreign_done s (PutBack f) w e h = let g = receipt_ok m s f e in unlike_kept s f.login _ w.sound g.login-low g.login-high refl h
+      alike_trans m a s s1 _ (unlike_slips s l _ w.sound g.login_low g.login_high h)
+      (unlike_row m a firm s1 l r k1 g.login_low g.login_high
+      (equal_before m a firm s1 l r k1 g.login_low g.login_high (other ∙ sym h)) other h)
+  foreign_done s (PutBack f) w e h = let g = receipt_ok m s f e in unlike_kept s f.login _ w.sound g.login_low g.login_high refl h
   foreign_done s (Kill scope reach block) w e h =
       let f = kill_ok m s scope reach block e in
       let q = in_kill s scope reach in

@@ -21,7 +21,6 @@ use Rattle.history.specs.Promises.{Firm, Isolation}
 use Rattle.history.specs.State.{Row, State, is_open, row}
 use Rattle.history.specs.Step.{Allowed, Happens, reached}
 use Rattle.history.specs.Strikes.{fill_effect, fill_notice}
-use Rattle.history.specs.Tally.{cancelled}
 use Rattle.history.specs.Trips.{causes_of, effect_of, in_trip}
 use Rattle.history.proofs.Alike.{Alike, own_any, own_row}
 use Rattle.history.proofs.Lasting.{once_next, once_reached}

@@ -25,7 +25,6 @@ use Rattle.history.specs.Scopes.{lift_scope}
 use Rattle.history.specs.State.{Row, State, blank, is_leaving, is_open, nothing_waits, nonzero, opened, receipted_row, retired_row, row, with_book, with_out}
 use Rattle.history.specs.Step.{Allowed, Happens, after, reached}
 use Rattle.history.specs.Strikes.{fill_notice, fill_told, traded_state}
-use Rattle.history.specs.Tally.{cancelled}
 use Rattle.history.specs.Trips.{causes_of, no_effect, tell}
 use Rattle.history.proofs.Accepted.{enter_ok, kill_ok, open_ok, receipt_ok, release_ok, retire_ok, take_ok, value_ok}
 use Rattle.history.proofs.Known.{Done, Known, firm_of, held_scope, here, known_book, known_noticed, known_row, known_told, lifted_scope, not_here}
@@ -232,7 +231,7 @@ module _ (m : Meaning) where
         (s : State m) (F : ℕ → ℕ) (V : ℕ → Bool) (H : ScopeNumber → Bool) (t : Ticket) → Known m s F V H
         → (o : Option Refusal) → refusal s (Enter t) ≡ o
         → Known m (unless o s (done s (Enter t))) F V (λ x. entry_says F t.login (enter_reply t s o) x (H x))
-    known_enter s F V H t k None e = known_verdict s F V H t k (enter_ok m s t e).is_open (verdict s t) refl
+    known_enter s F V H t k None e = known_verdict s F V H t k (enter_ok m s t e).open_is (verdict s t) refl
     known_enter s F V H t k (Some x) e = known_ext s F F V V H _ k (λ l. refl) (λ n. refl) (λ y. by (eqb (number x) 21) y)
       where
         by : (b : Bool) (y : ScopeNumber)

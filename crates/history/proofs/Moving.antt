@@ -1,6 +1,6 @@
 -- What the moves of a gate do to the contracts that an acronym has in the market, resting and on slips. Assumes nothing.
-use Rattle.std.proofs.Common.{◌≡◌, ℕ, zero, ◌+◌, ◌≤◌, Bool, true, false, cond, ◌&&◌, ◌||◌, eqb, ◌⊎◌, List, [], ◌∷◌, ◌++◌, map, length, Some, Ok, sym, refl, ap, ◌∙◌, subst, ⊎_elim, arith}
-use Rattle.std.specs.List.{AllByRecursion as All}
+use Rattle.std.proofs.Common.{◌≡◌, ℕ, ◌+◌, ◌≤◌, Bool, true, false, cond, ◌&&◌, ◌||◌, eqb, ◌⊎◌, List, [], ◌∷◌, ◌++◌, map, length, Some, Ok, sym, refl, ap, ◌∙◌, subst, ⊎_elim, arith}
+use Rattle.std.specs.List.{AllByRecursion}
 use Rattle.std.proofs.lemmas.Bool.{and_parts, eq-eqb, eqb-true, or_cases}
 use Rattle.std.proofs.lemmas.Bool.Decides.{eqb_tells}
 use Rattle.terms.specs.Tables.{at, put, up_to}
@@ -211,7 +211,7 @@ module _ (m : Meaning) (a : ℕ) where
       (λ (x : Row). cond (eqb x.acronym a) (on_slips (at [] (put S l ss) l)) 0) (at_same blank R l l r low low_r refl)
       ∙ ap (λ (x : List Slip). cond (eqb r.acronym a) (on_slips x) 0) (at_same [] S l l ss low low_s refl) in
       let rest = totals_same (λ e. eqb (at blank (put R l r) e.login).acronym a) (λ e. has a s e.login) s.book.resting
-      (all_weak (All (OpenIn R)) (All (λ e. eqb (at blank (put R l r) e.login).acronym a ≡ has a s e.login)) s.book.resting
+      (all_weak (AllByRecursion (OpenIn R)) (AllByRecursion (λ e. eqb (at blank (put R l r) e.login).acronym a ≡ has a s e.login)) s.book.resting
       (λ es x. all_weak (OpenIn R) (λ e. eqb (at blank (put R l r) e.login).acronym a ≡ has a s e.login) es
       (λ e o. ap (λ (y : Row). eqb y.acronym a) (rows_at e.login) ∙ ⊎_elim
       (λ p. let q : l ≡ e.login = p.1 in
@@ -241,7 +241,7 @@ module _ (m : Meaning) (a : ℕ) where
       (λ p. ap (λ (x : Row). cond (eqb x.acronym a) (on_slips (waiting_of s.book i)) 0) (at_other blank R l i r low low_r p.0))
       (eqb_tells l i)) in
       let rest = totals_same (λ e. eqb (at blank (put R l r) e.login).acronym a) (λ e. has a s e.login) s.book.resting
-      (all_weak (All (OpenIn R)) (All (λ e. eqb (at blank (put R l r) e.login).acronym a ≡ has a s e.login)) s.book.resting
+      (all_weak (AllByRecursion (OpenIn R)) (AllByRecursion (λ e. eqb (at blank (put R l r) e.login).acronym a ≡ has a s e.login)) s.book.resting
       (λ es x. all_weak (OpenIn R) (λ e. eqb (at blank (put R l r) e.login).acronym a ≡ has a s e.login) es
       (λ e o. ap (λ (y : Row). eqb y.acronym a) (rows_at e.login) ∙ ⊎_elim
       (λ p. let q : l ≡ e.login = p.1 in never _ (shutl (ap (λ (i : ℕ). is_open (at blank R i)) q ∙ o)))
@@ -274,7 +274,7 @@ module _ (m : Meaning) (a : ℕ) where
       (λ p. ap (λ (x : Row). cond (eqb x.acronym a) (on_slips (waiting_of s.book i)) 0) (at_other blank R l i r b.0 low_r p.0))
       (eqb_tells l i)) in
       let rest = totals_same (λ e. eqb (at blank (put R l r) e.login).acronym a) (λ e. has a s e.login) (map (without q) E)
-      (all_map (All (OpenIn R)) (All (λ e. eqb (at blank (put R l r) e.login).acronym a ≡ has a s e.login)) (without q) E
+      (all_map (AllByRecursion (OpenIn R)) (AllByRecursion (λ e. eqb (at blank (put R l r) e.login).acronym a ≡ has a s e.login)) (without q) E
       (λ es x. all_weak (λ e. OpenIn R e × (q e ≡ false)) (λ e. eqb (at blank (put R l r) e.login).acronym a ≡ has a s e.login)
       (without q es) (λ e y. ap (λ (z : Row). eqb z.acronym a) (rows_at e.login) ∙ ⊎_elim
       (λ p. mixed _ (sym p.0 ∙ reach_all l e y.1))

@@ -1,7 +1,7 @@
 -- Every slip taken names an entry accepted since its login was last opened: so does every entry that rests and every slip that waits.
 -- Assumes nothing.
 use Rattle.std.proofs.Common.{◌≡◌, ℕ, ◌≤◌, Bool, true, false, cond, ◌&&◌, eqb, List, [], ◌∷◌, map, length, Some, None, Ok, Err, Option, Result, sym, refl, ap, ◌∙◌, subst, ⊎_elim, arith}
-use Rattle.std.specs.List.{AllByRecursion as All}
+use Rattle.std.specs.List.{AllByRecursion}
 use Rattle.std.proofs.lemmas.Bool.{and_parts, eq-eqb, eqb-true, ne_eqb}
 use Rattle.std.proofs.lemmas.Bool.Decides.{eqb_tells}
 use Rattle.terms.specs.Answers.{given, is_ok, unless}
@@ -43,13 +43,13 @@ WaitOk A l s = any_of (names l s) (A l) ≡ true
 
 -- all that rests and waits is named
 record Kept (b : Book) (A : ℕ → List Ticket) : Type 0 where
-  rests : All (All (RestOk A)) b.resting
-  waits : (l : ℕ) → All (WaitOk A l) (waiting_of b l)
+  rests : AllByRecursion (AllByRecursion (RestOk A)) b.resting
+  waits : (l : ℕ) → AllByRecursion (WaitOk A l) (waiting_of b l)
 
 kept_off : (b : Book) (A : ℕ → List Ticket) (q : Entry → Bool) → Kept b A → Kept (taken_off q b) A
 kept_off b A q k =
     record {
-      rests = all_map (All (RestOk A)) (All (RestOk A)) (without q) b.resting
+      rests = all_map (AllByRecursion (RestOk A)) (AllByRecursion (RestOk A)) (without q) b.resting
           (λ es x. all_weak (λ e. RestOk A e × (q e ≡ false)) (RestOk A) (without q es) (λ e p. p.0) (all_without (RestOk A) q es x)) k.rests;
       waits = k.waits;
     }
@@ -58,7 +58,7 @@ kept_off b A q k =
 kept_more : (b : Book) (A : ℕ → List Ticket) (t : Ticket) → Kept b A → Kept b (λ l. cond (eqb t.login l) (t ∷ A l) (A l))
 kept_more b A t k =
     record {
-      rests = all_weak (All (RestOk A)) (All (RestOk B)) b.resting
+      rests = all_weak (AllByRecursion (RestOk A)) (AllByRecursion (RestOk B)) b.resting
           (λ es x. all_weak (RestOk A) (RestOk B) es
           (λ e y. longer (λ u. eqb u.login e.login && (eqb u.number e.number && eqb u.side e.side))
           (eqb t.login e.login) (A e.login) y) x) k.rests;
@@ -75,27 +75,27 @@ kept_more b A t k =
 kept_rest : (b : Book) (A : ℕ → List Ticket) (series : ℕ) (e : Entry) → RestOk A e → Kept b A → Kept (rested b series e) A
 kept_rest b A series e o k =
     record {
-      rests = all_put (All (RestOk A)) b.resting series _
-          (all_joined (RestOk A) (at [] b.resting series) (e ∷ []) (all_at (All (RestOk A)) [] b.resting series tt k.rests) (o, tt)) k.rests;
+      rests = all_put (AllByRecursion (RestOk A)) b.resting series _
+          (all_joined (RestOk A) (at [] b.resting series) (e ∷ []) (all_at (AllByRecursion (RestOk A)) [] b.resting series tt k.rests) (o, tt)) k.rests;
       waits = k.waits;
     }
 
 -- a login's slips change
-kept_slips : (b : Book) (A : ℕ → List Ticket) (l : ℕ) (ss : List Slip) → 1 ≤ l → l ≤ length b.slips → All (WaitOk A l) ss → Kept b A
+kept_slips : (b : Book) (A : ℕ → List Ticket) (l : ℕ) (ss : List Slip) → 1 ≤ l → l ≤ length b.slips → AllByRecursion (WaitOk A l) ss → Kept b A
     → Kept (with_slips_of b l ss) A
 kept_slips b A l ss low high o k =
     record {
       rests = k.rests;
       waits = λ i. ⊎_elim
-          (λ p. subst (All (WaitOk A i)) (sym (at_same [] b.slips l i ss low high p.1)) (subst (λ (j : ℕ). All (WaitOk A j) ss) p.1 o))
-          (λ p. subst (All (WaitOk A i)) (sym (at_other [] b.slips l i ss low high p.0)) (k.waits i))
+          (λ p. subst (AllByRecursion (WaitOk A i)) (sym (at_same [] b.slips l i ss low high p.1)) (subst (λ (j : ℕ). AllByRecursion (WaitOk A j) ss) p.1 o))
+          (λ p. subst (AllByRecursion (WaitOk A i)) (sym (at_other [] b.slips l i ss low high p.0)) (k.waits i))
           (eqb_tells l i);
     }
 
 kept_side : (b : Book) (A : ℕ → List Ticket) (f : Fill) → 1 ≤ f.login → f.login ≤ length b.slips
     → any_in (fillable f) b.resting ≡ true → Kept b A → Kept (side_traded f b) A
 kept_side b A f low high any k =
-    let es = any_all (All (RestOk A)) (any_of (fillable f)) b.resting k.rests any in
+    let es = any_all (AllByRecursion (RestOk A)) (any_of (fillable f)) b.resting k.rests any in
     let e = any_all (RestOk A) (fillable f) es.0 es.1 es.2 in
     let x = e.0 in
     let fl = (and_parts (fills f x) _ e.2).0 in
@@ -106,7 +106,7 @@ kept_side b A f low high any k =
     kept_slips (with_resting b (map (filled_in f) b.resting)) A f.login _ low high
     (all_joined (WaitOk A f.login) (waiting_of b f.login) (slip_of f ∷ []) (k.waits f.login) (named, tt))
     (record {
-      rests = all_map (All (RestOk A)) (All (RestOk A)) (filled_in f) b.resting (λ es y. all_filled (RestOk A) f es (λ e n w p. p) y) k.rests;
+      rests = all_map (AllByRecursion (RestOk A)) (AllByRecursion (RestOk A)) (filled_in f) b.resting (λ es y. all_filled (RestOk A) f es (λ e n w p. p) y) k.rests;
       waits = k.waits;
     })
   where
@@ -147,7 +147,7 @@ module _ (m : Meaning) where
       record {
         rests = both_all s.book.resting sound.table.rests k.rests;
         waits = λ i. ⊎_elim
-            (λ p. subst (All (WaitOk B i)) (sym (ap (waiting_of s.book) (sym p.1) ∙ sound.table.waits l f)) tt)
+            (λ p. subst (AllByRecursion (WaitOk B i)) (sym (ap (waiting_of s.book) (sym p.1) ∙ sound.table.waits l f)) tt)
             (λ p. all_weak (WaitOk A i) (WaitOk B i) (waiting_of s.book i) (λ x y. ap (any_of (names i x)) (stays i p.0) ∙ y) (k.waits i))
             (eqb_tells l i);
       }
@@ -161,7 +161,7 @@ module _ (m : Meaning) where
       other : (e : Entry) → OpenIn s.rows e → eqb l e.login ≡ false
       other e o = ne_eqb l e.login (λ q. mixed ⊥ (sym f ∙ open_free (row s l) (ap (λ (i : ℕ). is_open (row s i)) q ∙ o)))
 
-      each : (es : List Entry) → All (OpenIn s.rows) es → All (RestOk A) es → All (RestOk B) es
+      each : (es : List Entry) → AllByRecursion (OpenIn s.rows) es → AllByRecursion (RestOk A) es → AllByRecursion (RestOk B) es
       each [] o r = tt
       each (e ∷ es) o r = (
         ap (λ (ts : List Ticket). any_of
@@ -170,11 +170,11 @@ module _ (m : Meaning) where
         each es o.1 r.1,
       )
 
-      both_all : (ess : List (List Entry)) → All (All (OpenIn s.rows)) ess → All (All (RestOk A)) ess → All (All (RestOk B)) ess
+      both_all : (ess : List (List Entry)) → AllByRecursion (AllByRecursion (OpenIn s.rows)) ess → AllByRecursion (AllByRecursion (RestOk A)) ess → AllByRecursion (AllByRecursion (RestOk B)) ess
       both_all [] o r = tt
       both_all (es ∷ ess) o r = (each es o.0 r.0, both_all ess o.1 r.1)
 
-  all_younger : (P : Slip → Type 0) (ss : List Slip) → All P ss → All P (younger ss)
+  all_younger : (P : Slip → Type 0) (ss : List Slip) → AllByRecursion P ss → AllByRecursion P (younger ss)
   all_younger P [] a = tt
   all_younger P (s ∷ ss) a = a.1
 
@@ -229,7 +229,7 @@ module _ (m : Meaning) where
 
   kept_reached : (p : m.Pub) (room : ℕ) (h : List Event) → Happens m p room h → KeptIn (reached m p room h) (accepted_in h)
   kept_reached p room [] t = record
-      { rests = all_same (All (RestOk (λ _. []))) [] 16 tt; waits = λ l. subst (All (WaitOk (λ _. []) l)) (sym (same_all [] 24 l)) tt }
+      { rests = all_same (AllByRecursion (RestOk (λ _. []))) [] 16 tt; waits = λ l. subst (AllByRecursion (WaitOk (λ _. []) l)) (sym (same_all [] 24 l)) tt }
   kept_reached p room (e ∷ h) t = kept_after (reached m p room h) (accepted_in h) (sound_reached m p room h t.0)
       (kept_reached p room h t.0) (moment e) t.1
 
@@ -249,7 +249,7 @@ module _ (m : Meaning) where
       go :
           (o : Option Refusal) → refusal (reached m p room h) (Take login) ≡ o
           → Ok f ≡ given o (handed login (first (waiting_of (reached m p room h).book login)))
-          → All (WaitOk (accepted_in h) login) (waiting_of (reached m p room h).book login) → WaitOk (accepted_in h) f.login (slip_of f)
+          → AllByRecursion (WaitOk (accepted_in h) login) (waiting_of (reached m p room h).book login) → WaitOk (accepted_in h) f.login (slip_of f)
       go (Some x) e q w = let z : ◌≡◌ {A = ℕ} 0 1 = cc in never _ (omega arith)
       go None e q w =
           let is : f ≡ handed login (first (waiting_of (reached m p room h).book login)) = inside_ok _ _ q in
@@ -259,6 +259,6 @@ module _ (m : Meaning) where
           inside_ok : (x y : Fill) → ◌≡◌ {A = Result Fill Refusal} (Ok x) (Ok y) → x ≡ y
           inside_ok x y e = cc
 
-          head_ok : (ss : List Slip) → nothing_waits ss ≡ false → All (WaitOk (accepted_in h) login) ss → WaitOk (accepted_in h) login (first ss)
+          head_ok : (ss : List Slip) → nothing_waits ss ≡ false → AllByRecursion (WaitOk (accepted_in h) login) ss → WaitOk (accepted_in h) login (first ss)
           head_ok [] n a = mixed _ n
           head_ok (x ∷ ss) n a = a.0

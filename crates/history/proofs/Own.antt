@@ -1,6 +1,6 @@
 -- A call of an acronym is answered alike by gates that are alike to it, and leaves them alike. Assumes nothing.
 use Rattle.std.proofs.Common.{◌≡◌, ℕ, ◌≤◌, Bool, true, false, cond, not, ◌&&◌, eqb, List, [], ◌∷◌, length, Some, None, Option, sym, refl, ap, ◌∙◌, subst, ap₂, ⊎_elim, arith}
-use Rattle.std.specs.List.{AllByRecursion as All}
+use Rattle.std.specs.List.{AllByRecursion}
 use Rattle.std.proofs.lemmas.Bool.{and_parts, eqb-true}
 use Rattle.std.proofs.lemmas.Bool.Decides.{eqb_tells}
 use Rattle.terms.specs.Answers.{first_of, given, unless}
@@ -24,7 +24,7 @@ use Rattle.history.specs.Acts.{Act, Cancel, Enter, Kill, Limit, Open, PutBack, R
 use Rattle.history.specs.Calls.{done, first, in_kill, is_oldest, kill_cause, next, refusal, reply}
 use Rattle.history.specs.Entering.{Verdict, enter_reply, verdict, verdict_leaves}
 use Rattle.history.specs.Fields.{good_fill, good_kill, good_limit, good_login, good_number, good_scope}
-use Rattle.history.specs.Part.{answers, belongs, has, has_scope}
+use Rattle.history.specs.Part.{belongs, has, has_scope}
 use Rattle.history.specs.Promises.{Firm}
 use Rattle.history.specs.Scopes.{hold_scope, lift_scope, scope_acronym, shut}
 use Rattle.history.specs.State.{Row, State, blank, first_cause, is_free, is_open, nothing_waits, receipted_row, retired_row, row, with_book, with_hold, with_out, with_row, with_time, with_values}
@@ -71,7 +71,7 @@ module _ (m : Meaning) (a : ℕ) (firm : Firm a) where
   pub swept_before : (s : State m) (l : ℕ) (r : Row) → Sound m s → 1 ≤ l → l ≤ 24
       → AsBefore m a firm (with_book (taken_off (in_reach l 3) s.book) s) l r
   swept_before s l r k low high =
-      all_map (All (OpenIn s.rows)) (All (λ e. mine m a (with_row l r s) e ≡ mine m a s e)) (without (in_reach l 3)) s.book.resting
+      all_map (AllByRecursion (OpenIn s.rows)) (AllByRecursion (λ e. mine m a (with_row l r s) e ≡ mine m a s e)) (without (in_reach l 3)) s.book.resting
       (λ es x. all_weak (λ e. OpenIn s.rows e × (in_reach l 3 e ≡ false)) (λ e. mine m a (with_row l r s) e ≡ mine m a s e)
       (without (in_reach l 3) es)
       (λ e y. ap (λ (z : Row). eqb z.acronym a)
@@ -202,7 +202,7 @@ module _ (m : Meaning) (a : ℕ) (firm : Firm a) where
           answers = ap entered (same_reply m a firm s u t (refusal s (Enter t)) k h ∙ ap (enter_reply t u) ref);
           states = by_refusal s u (Enter t) k ref
               (λ e. subst (λ (v : Verdict). Alike m a (done s (Enter t)) (verdict_leaves t u v)) (same_verdict m a firm s u k t h)
-              (alike_enter m a firm s u t (verdict s t) k ws wu (enter_ok m s t e).is_open h));
+              (alike_enter m a firm s u t (verdict s t) k ws wu (enter_ok m s t e).open_is h));
         }
 
     own_cancel : (l n : ℕ) → has a s l ≡ true → Both s u (Cancel l n)
@@ -239,7 +239,7 @@ module _ (m : Meaning) (a : ℕ) (firm : Firm a) where
           answers = ap (λ (o : Option Refusal). plain (given o tt)) ref;
           states = by_refusal s u (PutBack f) k ref
               (λ e. let g = receipt_ok m s f e in
-              alike_kept s u f.login (with_out false) (λ r. refl) ws.sound wu.sound g.login-low g.login-high h k);
+              alike_kept s u f.login (with_out false) (λ r. refl) ws.sound wu.sound g.login_low g.login_high h k);
         }
 
     own_kill : (scope : ScopeNumber) (reach block : ℕ) → has_scope a s scope ≡ true → Both s u (Kill scope reach block)
@@ -292,8 +292,8 @@ module _ (m : Meaning) (a : ℕ) (firm : Firm a) where
           answers = ap (λ (o : Option Refusal). plain (given o tt)) ref;
           states = by_refusal s u (Receipt f) k ref (λ e.
               let g = receipt_ok m s f e in
-              let low = g.login-low in
-              let high = g.login-high in
+              let low = g.login_low in
+              let high = g.login_high in
               let nf : is_free (row u l) ≡ false = ap is_free (sym rl) ∙ g.not_free in
               let drop_s : (v : State m) → List Slip → State m = λ v x. with_book (with_slips_of v.book l x) v in
               let ks1 : Sound m (drop_s s ss) = record

@@ -18,9 +18,8 @@ use Rattle.market.specs.Book.{Entry, Slip, is_for, reaches, taken_off, totals}
 use Rattle.market.specs.Market.{rest_refusal}
 use Rattle.market.proofs.Picked.{onlys_rest}
 use Rattle.checks.specs.Meaning.{Meaning, told_causes, whose}
-use Rattle.history.specs.Acts.{Enter, told}
+use Rattle.history.specs.Acts.{Enter}
 use Rattle.history.specs.Calls.{refusal}
-use Rattle.history.specs.Tally.{cancelled}
 use Rattle.history.specs.Entering.{Verdict, asked, cannot_rest, enter_reply, entry_of, rests, turned, verdict, verdict_answer, verdict_leaves, verdict_of, with_entry}
 use Rattle.history.specs.Fields.{good_ticket}
 use Rattle.history.specs.Part.{has}

@@ -18,7 +18,6 @@ use Rattle.market.proofs.Reaches.{reach_own}
 use Rattle.checks.specs.Meaning.{Meaning}
 use Rattle.history.specs.Acts.{Act, Answer, Cancel, Enter, Kill, Limit, Moment, Open, PutBack, Receipt, Release, Retire, Take, Tick, Values, act, moment, strike, told}
 use Rattle.history.specs.Calls.{done, next, refusal, reply}
-use Rattle.history.specs.Entering.{rests}
 use Rattle.history.specs.Fields.{good_time}
 use Rattle.history.specs.Part.{Item, belongs, has, items, only_if, own, own_call, own_side, share}
 use Rattle.history.specs.Promises.{Firm}

@@ -1,6 +1,6 @@
 -- What a gate keeps true of its rows and its market: only open logins rest entries, a free one has no slip, any other is an acronym's. Assumes nothing.
 use Rattle.std.proofs.Common.{◌≡◌, ℕ, ◌≤◌, Bool, true, false, cond, eqb, List, [], ◌∷◌, ◌++◌, map, length, sym, refl, ap, ◌∙◌, subst, ⊎_elim, arith}
-use Rattle.std.specs.List.{AllByRecursion as All}
+use Rattle.std.specs.List.{AllByRecursion}
 use Rattle.std.proofs.lemmas.Bool.{and_parts, eqb-true}
 use Rattle.std.proofs.lemmas.Bool.Decides.{eqb_tells}
 use Rattle.terms.specs.Tables.{at, put}
@@ -16,7 +16,6 @@ use Rattle.market.proofs.Fills.{all_filled}
 use Rattle.market.proofs.Picked.{all_without}
 use Rattle.market.proofs.Reaches.{reach_all}
 use Rattle.checks.specs.Meaning.{Meaning}
-use Rattle.history.specs.Entering.{rests}
 use Rattle.history.specs.Promises.{Firm}
 use Rattle.history.specs.Scopes.{shut}
 use Rattle.history.specs.State.{Row, State, blank, first_cause, is_free, is_open, retired_row, row, with_book, with_hold}
@@ -34,7 +33,7 @@ pub record Table (R : List Row) (E : List (List Entry)) (S : List (List Slip)) :
   pub series16 : length E ≡ 16
   pub slips24 : length S ≡ 24
   -- what rests is of open logins
-  pub rests : All (All (OpenIn R)) E
+  pub rests : AllByRecursion (AllByRecursion (OpenIn R)) E
   -- a free login has no slip
   pub waits : (l : ℕ) → is_free (at blank R l) ≡ true → at [] S l ≡ []
   -- any other is of an acronym
@@ -50,7 +49,7 @@ module _ {R : List Row} {E : List (List Entry)} {S : List (List Slip)} (t : Tabl
         rows24 = t.rows24;
         series16 = length_map (without q) E ∙ t.series16;
         slips24 = t.slips24;
-        rests = all_map (All (OpenIn R)) (All (OpenIn R)) (without q) E
+        rests = all_map (AllByRecursion (OpenIn R)) (AllByRecursion (OpenIn R)) (without q) E
             (λ es a. all_weak (λ e. OpenIn R e × (q e ≡ false)) (OpenIn R) (without q es) (λ e p. p.0) (all_without (OpenIn R) q es a)) t.rests;
         waits = t.waits;
         real = t.real;
@@ -62,8 +61,8 @@ module _ {R : List Row} {E : List (List Entry)} {S : List (List Slip)} (t : Tabl
         rows24 = t.rows24;
         series16 = length_put E series _ ∙ t.series16;
         slips24 = t.slips24;
-        rests = all_put (All (OpenIn R)) E series _
-            (all_joined (OpenIn R) (at [] E series) (e ∷ []) (all_at (All (OpenIn R)) [] E series tt t.rests) (o, tt)) t.rests;
+        rests = all_put (AllByRecursion (OpenIn R)) E series _
+            (all_joined (OpenIn R) (at [] E series) (e ∷ []) (all_at (AllByRecursion (OpenIn R)) [] E series tt t.rests) (o, tt)) t.rests;
         waits = t.waits;
         real = t.real;
       }
@@ -85,7 +84,7 @@ module _ {R : List Row} {E : List (List Entry)} {S : List (List Slip)} (t : Tabl
         rows24 = t.rows24;
         series16 = length_map (filled_in f) E ∙ t.series16;
         slips24 = length_put S f.login _ ∙ t.slips24;
-        rests = all_map (All (OpenIn R)) (All (OpenIn R)) (filled_in f) E (λ es a. all_filled (OpenIn R) f es (λ e n w p. p) a) t.rests;
+        rests = all_map (AllByRecursion (OpenIn R)) (AllByRecursion (OpenIn R)) (filled_in f) E (λ es a. all_filled (OpenIn R) f es (λ e n w p. p) a) t.rests;
         waits = slip_more f.login _ o;
         real = t.real;
       }
@@ -100,7 +99,7 @@ module _ {R : List Row} {E : List (List Entry)} {S : List (List Slip)} (t : Tabl
         rows24 = length_put R l r ∙ t.rows24;
         series16 = t.series16;
         slips24 = t.slips24;
-        rests = all_weak (All (OpenIn R)) (All (OpenIn (put R l r))) E
+        rests = all_weak (AllByRecursion (OpenIn R)) (AllByRecursion (OpenIn (put R l r))) E
             (λ es a. all_weak (OpenIn R) (OpenIn (put R l r)) es (λ e p. ap is_open (there e.login) ∙ ⊎_elim
             (λ q. rw q.0 (op (ap (λ (n : ℕ). is_open (at blank R n)) q.1 ∙ p)))
             (λ q. rw q.0 p)
@@ -131,7 +130,7 @@ table_retire {R} {E} {S} t l o =
       rows24 = length_put R l r ∙ t.rows24;
       series16 = length_map (without (in_reach l 3)) E ∙ t.series16;
       slips24 = t.slips24;
-      rests = all_map (All (OpenIn R)) (All (OpenIn (put R l r))) (without (in_reach l 3)) E
+      rests = all_map (AllByRecursion (OpenIn R)) (AllByRecursion (OpenIn (put R l r))) (without (in_reach l 3)) E
           (λ es a. all_weak (λ e. OpenIn R e × (in_reach l 3 e ≡ false)) (OpenIn (put R l r)) (without (in_reach l 3) es)
           (λ e p. ap is_open (there e.login) ∙ ⊎_elim
           (λ q. mixed _ (sym q.0 ∙ reach_all l e p.1))
@@ -219,7 +218,7 @@ module _ (m : Meaning) where
       (s : State m) (t : Trade) → Sound m s → tradeable s.book t ≡ true
       → (is_open (row s t.buyer.login) ≡ true) × (is_open (row s t.seller.login) ≡ true)
   traders_open s t k h =
-      let series = any_all (All (OpenIn s.rows)) _ s.book.resting k.table.rests (and_parts _ _ h).1 in
+      let series = any_all (AllByRecursion (OpenIn s.rows)) _ s.book.resting k.table.rests (and_parts _ _ h).1 in
       let both = and_parts _ _ series.2 in
       let buy = any_all (OpenIn s.rows) _ series.0 series.1 both.0 in
       let sell = any_all (OpenIn s.rows) _ series.0 series.1 both.1 in (

@@ -1,6 +1,6 @@
 -- A gate stays sound, whatever comes. Assumes nothing.
 use Rattle.std.proofs.Common.{◌≡◌, ℕ, Bool, true, false, List, [], ◌∷◌, replicate, Some, None, Ok, Err, Option, Result, sym, refl, ap, ◌∙◌}
-use Rattle.std.specs.List.{AllByRecursion as All}
+use Rattle.std.specs.List.{AllByRecursion}
 use Rattle.terms.specs.Tables.{at, put}
 use Rattle.terms.specs.declared.events.Event.{Event}
 use Rattle.terms.specs.declared.events.Struck.{Struck}
@@ -81,7 +81,7 @@ module _ (m : Meaning) where
       }
   sound_done s (Retire l) k e = record { table = table_retire k.table l (retire_ok m s l e); holds8 = k.holds8; valued16 = k.valued16 }
   sound_done s (Limit x) k e = sound_told s _ k
-  sound_done s (Enter t) k e = sound_enter s t (verdict s t) k (enter_ok m s t e).is_open
+  sound_done s (Enter t) k e = sound_enter s t (verdict s t) k (enter_ok m s t e).open_is
   sound_done s (Cancel l n) k e = sound_off s (is_for l n) k
   sound_done s (Take l) k e =
       let f = take_ok m s l e in
@@ -141,7 +141,7 @@ module _ (m : Meaning) where
           series16 = refl;
           slips24 = refl;
           rests = all_same
-              (All (λ (e : Entry). is_open (at blank (replicate 24 blank) e.login) ≡ true)) [] 16 tt;
+              (AllByRecursion (λ (e : Entry). is_open (at blank (replicate 24 blank) e.login) ≡ true)) [] 16 tt;
           waits = λ l f. same_all
               [] 24 l;
           real = λ l f. mixed _ (sym (ap is_free (same_all blank 24 l)) ∙ f);

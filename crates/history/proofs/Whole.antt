@@ -123,7 +123,7 @@ module _ (m : Meaning) where
         idle = idle_put s l _ w.sound b.0 b.1 w.idle (retired_idle (waiting_of s.book l) (row s l));
       }
   whole_done s (Limit x) w e = whole_told s _ w
-  whole_done s (Enter t) w e = whole_enter s t (verdict s t) (enter_ok m s t e).is_open w
+  whole_done s (Enter t) w e = whole_enter s t (verdict s t) (enter_ok m s t e).open_is w
   whole_done s (Cancel l n) w e = whole_off s (is_for l n) w
   whole_done s (Take l) w e =
       let f = take_ok m s l e in

@@ -1,6 +1,6 @@
 -- Days worked out from the definitions, over a small check: every call, every refusal, trips of a login, of an acronym and of both at once,
 -- and places where a wrong reading of the rules would give another answer. Assumes nothing.
-use Rattle.std.specs.Prelude.{◌≡◌, ℕ, ◌+◌, Bool, true, false, cond, List, [], ◌∷◌, replicate, Some, None, Ok, Err, nat_le, nat_lt}
+use Rattle.std.specs.Prelude.{◌≡◌, ℕ, ◌+◌, true, false, cond, List, [], ◌∷◌, replicate, Some, None, Ok, Err, nat_le, nat_lt}
 use Rattle.terms.specs.declared.refusal.Refusal.{Refusal}
 use Rattle.terms.specs.declared.refusal.Refusal.TheVariants.{Field, NotOpen, Taken, Leaving, ClockBack, NoOrder, NoSlip, SlipOut, WrongSlip, SlipsFull}
 use Rattle.terms.specs.declared.values.ValueNumbers.{ValueNumbers}
@@ -17,14 +17,14 @@ use Rattle.terms.specs.declared.events.EnterAnswer.{EnterAnswer}
 use Rattle.terms.specs.declared.events.Struck.{Struck}
 use Rattle.terms.specs.declared.events.Event.{Event}
 use Rattle.terms.specs.declared.events.Event.TheVariants as event
-use Rattle.market.specs.Book.{Entry, with_resting}
+use Rattle.market.specs.Book.{with_resting}
 use Rattle.checks.specs.Meaning.{Meaning}
 use Rattle.history.specs.State.{State, row, private_of, is_free, is_leaving, with_book}
 use Rattle.history.specs.Trips.{no_effect}
 use Rattle.history.specs.Acts.{Tick, Values, Open, Retire, Limit, Enter, Cancel, Take, Receipt, PutBack, Kill, Release, Answer, plain, amount, entered, taken}
 use Rattle.history.specs.Calls.{reply}
 use Rattle.history.specs.Step.{Happens, reached}
-use Rattle.history.specs.Part.{Item, own_call, own_side, part_of}
+use Rattle.history.specs.Part.{own_call, own_side, part_of}
 use Rattle.history.specs.Tally.{accepted_contracts, receipted_contracts, cancelled_contracts, waiting_contracts, resting_contracts}
 use Rattle.history.specs.Held.{held_in}
 

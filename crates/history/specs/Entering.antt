@@ -1,6 +1,6 @@
 -- What an entry comes to once its fields are good, its login is open, its series has values and nobody holds it: first the checks judge it,
 -- then the market takes it or not. Assumes nothing.
-use Rattle.std.specs.Prelude.{ℕ, Bool, true, false, cond, ◌||◌, Some, None, Option, ◌==◌}
+use Rattle.std.specs.Prelude.{ℕ, Bool, cond, ◌||◌, Some, None, Option, ◌==◌}
 use Rattle.terms.specs.Refusals.{number}
 use Rattle.terms.specs.declared.refusal.Refusal.{Refusal}
 use Rattle.terms.specs.declared.messages.Ticket.{Ticket}

@@ -1,5 +1,5 @@
 -- The ranges of the fields of a call. Every call is refused 1 where one of its fields is out of its range, whatever else is so. Assumes nothing.
-use Rattle.std.specs.Prelude.{ℕ, Bool, true, false, ◌||◌, List, [], ◌∷◌, ◌==◌}
+use Rattle.std.specs.Prelude.{ℕ, Bool, ◌||◌, [], ◌∷◌, ◌==◌}
 use Rattle.terms.specs.declared.values.ValueNumbers.{ValueNumbers}
 use Rattle.terms.specs.declared.values.ConditionNumbers.{ConditionNumbers}
 use Rattle.terms.specs.declared.messages.ScopeNumber.{ScopeNumber}

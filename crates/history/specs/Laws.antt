@@ -1,6 +1,6 @@
 -- Laws that any run keeps, beside the three promises: what a gate's tables always hold, and what calls never do. Assumes nothing.
-use Rattle.std.specs.Prelude.{◌≡◌, ℕ, ◌≤◌, Bool, true, false, cond, ◌&&◌, ◌||◌, ◌⊎◌, List, [], ◌∷◌, length, Some, None, Ok, Option, Result, ◌==◌}
-use Rattle.std.specs.List.{AllByRecursion as All}
+use Rattle.std.specs.Prelude.{◌≡◌, ℕ, ◌≤◌, true, false, cond, ◌&&◌, ◌||◌, ◌⊎◌, List, [], ◌∷◌, length, Some, None, Ok, Option, Result, ◌==◌}
+use Rattle.std.specs.List.{AllByRecursion}
 use Rattle.terms.specs.declared.refusal.Refusal.{Refusal}
 use Rattle.terms.specs.declared.messages.Causes.{Causes}
 use Rattle.terms.specs.declared.messages.ScopeNumber.{ScopeNumber}
@@ -31,7 +31,7 @@ pub record InOrder {m : Meaning} (s : State m) : Type 0 where
   pub valued16 : length s.valued ≡ 16
   pub private8 : length s.private ≡ 8
   -- only open logins rest entries
-  pub open_rest : All (All (λ e. is_open (row s e.login) ≡ true)) s.book.resting
+  pub open_rest : AllByRecursion (AllByRecursion (λ e. is_open (row s e.login) ≡ true)) s.book.resting
   -- a login whose slip waits is not free, and so not yet another firm's
   pub free_none : (login : ℕ) → is_free (row s login) ≡ true → waiting_of s.book login ≡ []
   pub free_nobody : (login : ℕ) → is_free (row s login) ≡ true → (row s login).acronym ≡ 0

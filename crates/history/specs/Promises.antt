@@ -10,7 +10,7 @@ use Rattle.terms.specs.Tables.{any_of}
 use Rattle.market.specs.Book.{slip_of}
 use Rattle.checks.specs.Meaning.{Meaning}
 use Rattle.history.specs.Fields.{good_ticket}
-use Rattle.history.specs.State.{State, nonzero}
+use Rattle.history.specs.State.{nonzero}
 use Rattle.history.specs.Step.{reached, Happens}
 use Rattle.history.specs.Part.{part_of, answers_of}
 use Rattle.history.specs.Tally.{accepted_contracts, receipted_contracts, cancelled_contracts, waiting_contracts, resting_contracts, accepted_in, names}

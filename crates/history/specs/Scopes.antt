@@ -1,5 +1,5 @@
 -- A scope is a login, or an acronym with all its logins: who is in it, and its hold. Assumes nothing.
-use Rattle.std.specs.Prelude.{ℕ, Bool, true, false, not, ◌==◌}
+use Rattle.std.specs.Prelude.{ℕ, Bool, false, not, ◌==◌}
 use Rattle.terms.specs.declared.messages.ScopeNumber.{ScopeNumber}
 use Rattle.terms.specs.declared.messages.ScopeNumber.TheVariants.{Login, Acronym}
 use Rattle.checks.specs.Meaning.{Meaning}

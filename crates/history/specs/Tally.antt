@@ -1,6 +1,6 @@
 -- An acronym's contracts: those accepted, receipted and cancelled by its part, and those that rest and wait in the book under the logins that it
 -- holds. Assumes nothing.
-use Rattle.std.specs.Prelude.{ℕ, ◌+◌, Bool, true, false, cond, ◌&&◌, List, [], ◌∷◌, ◌==◌}
+use Rattle.std.specs.Prelude.{ℕ, ◌+◌, Bool, cond, ◌&&◌, List, [], ◌∷◌, ◌==◌}
 use Rattle.terms.specs.declared.messages.Ticket.{Ticket}
 use Rattle.terms.specs.declared.events.Event.{Event}
 use Rattle.terms.specs.Tables.{up_to}

@@ -1,5 +1,5 @@
 -- Telling the checks of something, and what it trips: the scope is held, and its open logins are swept, each within its own reach. Assumes nothing.
-use Rattle.std.specs.Prelude.{ℕ, Bool, true, false, ◌&&◌, ◌||◌}
+use Rattle.std.specs.Prelude.{ℕ, Bool, ◌&&◌, ◌||◌}
 use Rattle.terms.specs.declared.messages.Causes.{Causes}
 use Rattle.terms.specs.declared.messages.Notice.{Notice}
 use Rattle.terms.specs.declared.messages.ScopeNumber.TheVariants.{Login, Acronym}

@@ -1,5 +1,7 @@
 //! What a gate's day means (specs/), and what holds of every day, over any check and any market.
 
+#![tactic(auto)]
+
 ghost use Rattle.history.specs.Days.{small, full_day, FirstDay, TripDay, Refused, ToldApart};
 ghost use Rattle.history.specs.Step.{Happens};
 ghost use Rattle.history.specs.Laws.{AlwaysInOrder, CallLaws, SweepsByLogin};

@@ -1,5 +1,5 @@
 -- What is promised of a ledger: it tells what the events come to. Assumes nothing.
-use Rattle.std.specs.Prelude.{◌≡◌, ℕ, ◌≤◌, Bool, true, false, cond, List, length, Some, None, Option}
+use Rattle.std.specs.Prelude.{◌≡◌, ℕ, ◌≤◌, true, false, cond, List, length, Some, None, Option}
 use Rattle.terms.specs.declared.events.Event.{Event}
 use Rattle.terms.specs.Tables.{at, put}
 use Rattle.ledger.specs.declared.sums.Sums.{Sums}

@@ -1,5 +1,5 @@
 -- What the ledger writes down of an event, and what the events of a day come to. Assumes nothing.
-use Rattle.std.specs.Prelude.{◌≡◌, ℕ, ◌≤◌, Bool, true, false, cond, ◌||◌, List, [], ◌∷◌, length, replicate, Some, None, Ok, Err, Option, Result, ◌==◌}
+use Rattle.std.specs.Prelude.{ℕ, Bool, false, cond, ◌||◌, List, [], ◌∷◌, replicate, Some, None, Ok, Err, Option, Result, ◌==◌}
 use Rattle.terms.specs.declared.refusal.Refusal.{Refusal}
 use Rattle.terms.specs.declared.messages.ScopeNumber.{ScopeNumber}
 use Rattle.terms.specs.declared.messages.ScopeNumber.TheVariants.{Login, Acronym}
@@ -13,7 +13,7 @@ use Rattle.terms.specs.Tables.{at, put}
 use Rattle.ledger.specs.declared.sums.Sums.{Sums}
 use Rattle.ledger.specs.declared.postings.Item.{Item}
 use Rattle.ledger.specs.declared.postings.Posting.{Posting}
-use Rattle.ledger.specs.Sums.{sums, nothing, plus, held}
+use Rattle.ledger.specs.Sums.{sums, nothing, plus}
 
 -- ---- one event
 

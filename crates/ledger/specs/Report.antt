@@ -1,5 +1,5 @@
 -- The lines of the hand-over. Assumes nothing.
-use Rattle.std.specs.Prelude.{ℕ, ◌+◌, ◌-◌, Bool, true, false, cond, List, [], ◌∷◌, ◌++◌, is_some, Some, None, codes, decimal, Option}
+use Rattle.std.specs.Prelude.{ℕ, ◌+◌, ◌-◌, Bool, cond, List, [], ◌∷◌, ◌++◌, is_some, Some, None, codes, decimal, Option}
 use Rattle.terms.specs.Tables.{any_of}
 use Rattle.ledger.specs.declared.sums.Sums.{Sums}
 use Rattle.ledger.specs.declared.report.Standing.{Standing}

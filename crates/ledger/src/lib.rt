@@ -1,5 +1,7 @@
 //! What the events of a day come to for each firm: contracts accepted, receipted, cancelled and still in the venue.
 
+#![tactic(auto)]
+
 mod accounts;
 mod postings;
 mod report;

@@ -89,7 +89,7 @@ fn write_listed<W: fmt::Write>(
     standings: &[Standing],
     f: &mut fmt::Formatter<W>,
 ) -> fmt::Result
-    ensures { WritesOnOk write_str_gives f.old result (listed listing 1 standings.now) f.new }
+    ensures { WritesOnOk W.Write.write_str_gives f.old result (listed listing 1 standings.now) f.new }
 {
     for i in 0..standings.len() {
         let entry = entry_in(listing, standings[i]);

@@ -1,5 +1,5 @@
 -- A call that is written is read back. Assumes nothing.
-use Rattle.std.proofs.Common.{◌≡◌, ℕ, ◌^◌, ◌<◌, true, false, List, [], ◌∷◌, ◌++◌, map, length, Some, None, Ok, Err, decimal, Option, Result, sym, refl, ap, ◌∙◌, inl, inr, arith}
+use Rattle.std.proofs.Common.{◌≡◌, ℕ, true, false, List, [], ◌∷◌, ◌++◌, map, length, Some, None, Ok, Err, decimal, Option, Result, sym, refl, ap, ◌∙◌, inl, inr, arith}
 use Rattle.std.proofs.lemmas.Bool.{cases_Bool, cond-false, and_from, and_parts}
 use Rattle.std.proofs.lemmas.Bool.Decides.{nat_tests}
 use Rattle.script.specs.declared.fields.Fault.{Fault}
@@ -14,7 +14,7 @@ use Rattle.terms.specs.declared.events.Call.{Call}
 use Rattle.terms.specs.declared.events.Call.TheVariants as call
 use Rattle.lines.specs.declared.faults.CallFault.{CallFault}
 use Rattle.lines.specs.declared.verbs.Verb.{Verb}
-use Rattle.lines.specs.declared.verbs.Verb.TheVariants.{Tick, Values, Open, Retire, Limit, Enter, Cancel, Strike, Take, Receipt, PutBack, Kill, Release}
+use Rattle.lines.specs.declared.verbs.Verb.TheVariants.{Tick, Values, Open, Retire, Limit, Enter, Cancel, Take, Receipt, PutBack, Kill, Release}
 use Rattle.lines.specs.Calls.{applied, in_call, in_line, plainly, spared, limit_numbers, line_in}
 use Rattle.lines.specs.Spelling.{name_of, number_of as number_in, heading, value_numbers, ticket_numbers, fill_numbers, numbers_of, spelt, trailed, spaced, ReadsBack}
 

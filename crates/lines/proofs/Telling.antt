@@ -1,5 +1,5 @@
 -- What is read of a line is told in full, and a fault names what is wrong first. Assumes nothing.
-use Rattle.std.proofs.Common.{◌≡◌, ℕ, zero, suc, Bool, true, false, cond, eqb, List, [], ◌∷◌, ◌++◌, map, length, get_or, drop, Some, None, Ok, Err, Option, Result, sym, refl, ap, ◌∙◌, subst, inl, inr, arith}
+use Rattle.std.proofs.Common.{◌≡◌, ℕ, zero, suc, eqb, List, [], ◌∷◌, ◌++◌, map, length, drop, Some, None, Ok, Err, Option, Result, sym, refl, ap, ◌∙◌, subst, inl, inr, arith}
 use Rattle.std.specs.Str.{bytes_eq}
 use Rattle.std.proofs.lemmas.Slice.Eq.{bytes_eq-Decides}
 use Rattle.std.proofs.lemmas.Bool.{cases_Bool, cond-true, cond-false}
@@ -17,8 +17,8 @@ use Rattle.lines.specs.declared.verbs.Verb.{Verb}
 use Rattle.lines.specs.declared.verbs.Verb.TheVariants.{Tick, Values, Open, Retire, Limit, Enter, Cancel, Strike, Take, Receipt, PutBack, Kill, Release}
 use Rattle.lines.specs.Verbs.{worded, word_of, verbs, verb_of, scope_word, scope_of, scoped}
 use Rattle.lines.specs.Names.{field_names}
-use Rattle.lines.specs.Calls.{field, applied, in_call, in_line, plainly, spared, limit_numbers, limit_in, scope_first, or_scope, for_scope, with_scope, call_in, begun, line_in}
-use Rattle.lines.specs.Spelling.{number_of as number_in, heading, numbers_of, Writes, scopes, LineTold}
+use Rattle.lines.specs.Calls.{field, applied, in_call, in_line, plainly, spared, limit_numbers, limit_in, or_scope, for_scope, with_scope, call_in, begun, line_in}
+use Rattle.lines.specs.Spelling.{number_of as number_in, heading, numbers_of, scopes, LineTold}
 
 -- ---- words
 

@@ -1,10 +1,9 @@
 -- An answer as it is printed. Assumes nothing.
-use Rattle.std.specs.Prelude.{ℕ, cond, List, [], ◌∷◌, ◌++◌, Some, None, Ok, Err, codes, decimal, Option, Result}
+use Rattle.std.specs.Prelude.{ℕ, List, [], ◌∷◌, ◌++◌, Some, None, Ok, Err, codes, decimal, Option, Result}
 use Rattle.terms.specs.declared.refusal.Refusal.{Refusal}
 use Rattle.terms.specs.declared.refusal.Refusal.TheVariants.{Field, ShortTable, NotEmpty, NotOpen, Taken, Leaving, ClockBack, NoOrder, NoSlip, SlipOut, WrongSlip, NoValues, Held, InUse, Allotment, SlipsFull, TooLarge, PutAndCall, LimitPrice}
 use Rattle.terms.specs.declared.messages.Fill.{Fill}
 use Rattle.terms.specs.declared.events.Effect.{Effect}
-use Rattle.terms.specs.declared.events.EnterAnswer.{EnterAnswer}
 use Rattle.terms.specs.declared.events.Struck.{Struck}
 use Rattle.terms.specs.declared.events.Trade.{Trade}
 use Rattle.terms.specs.declared.events.Event.{Event}

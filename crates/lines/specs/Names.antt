@@ -1,5 +1,5 @@
 -- The names of calls' fields, and the message of a fault. Assumes nothing.
-use Rattle.std.specs.Prelude.{ℕ, ◌-◌, cond, List, [], ◌∷◌, ◌++◌, map, codes, decimal, ◌==◌, slice_index_or}
+use Rattle.std.specs.Prelude.{ℕ, ◌-◌, cond, List, [], ◌∷◌, ◌++◌, codes, decimal, ◌==◌, slice_index_or}
 use Rattle.std.specs.Borrow.{Bor}
 use Rattle.script.specs.declared.fields.Fault.{Fault}
 use Rattle.script.specs.declared.fields.Fault.TheVariants as script

@@ -1,6 +1,6 @@
 -- A call as it is written, and what is promised of a line that is read. Assumes nothing.
 use Rattle.std.specs.Prelude.{◌≡◌, ℕ, ◌⊎◌, List, [], ◌∷◌, ◌++◌, map, length, Some, None, Ok, Err, decimal, Option, Result, ◌≢◌}
-use Rattle.script.specs.Numbers.{number_of as readAs, Fit, Told}
+use Rattle.script.specs.Numbers.{number_of as read_as, Fit, Told}
 use Rattle.terms.specs.declared.messages.Fill.{Fill}
 use Rattle.terms.specs.declared.messages.LimitNumbers.{LimitNumbers}
 use Rattle.terms.specs.declared.messages.ScopeNumber.{ScopeNumber}
@@ -92,8 +92,8 @@ ReadsBack line r = (c : Call) → Fit (numbers_of c) → line ≡ spaced (spelt 
 -- the words are the numbers of a call; the interval of a limit of kind 4 may be left out, and is then 0
 abbrev pub Writes : List (List ℕ) → Call → Type 0
 Writes ws c =
-    (map readAs ws ≡ map Some (numbers_of c))
-    ⊎ ((x : LimitNumbers) × (c ≡ Limit x) × (x.kind ≡ 4) × (x.interval ≡ 0) × (map readAs ws ≡ map Some (number_of x.scope ∷ x.kind ∷ x.limit ∷ [])))
+    (map read_as ws ≡ map Some (numbers_of c))
+    ⊎ ((x : LimitNumbers) × (c ≡ Limit x) × (x.kind ≡ 4) × (x.interval ≡ 0) × (map read_as ws ≡ map Some (number_of x.scope ∷ x.kind ∷ x.limit ∷ [])))
 
 -- how many words of a scope stand before a call's numbers
 abbrev pub scopes : Verb → ℕ

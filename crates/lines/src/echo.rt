@@ -18,7 +18,7 @@ pub struct Echo<'a> {
 
 /// Writes what a reader has still to give, a space before each word.
 fn trail<W: fmt::Write>(reader: &mut Reader, f: &mut fmt::Formatter<W>) -> fmt::Result
-    ensures { WritesOnOk write_str_gives f.old result (trailed (remaining reader.old)) f.new }
+    ensures { WritesOnOk W.Write.write_str_gives f.old result (trailed (remaining reader.old)) f.new }
 {
     while let Some(word) = reader.next_word() {
         let Ok(text) = str::from_utf8(word) else {

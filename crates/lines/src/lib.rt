@@ -1,5 +1,7 @@
 //! The lines of a day script: calls as they are read, answers and faults as they are printed.
 
+#![tactic(auto)]
+
 mod answers;
 mod calls;
 mod echo;

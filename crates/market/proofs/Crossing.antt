@@ -1,8 +1,7 @@
 -- Something crosses exactly where a trade may be made. Assumes nothing.
 use Rattle.std.proofs.Common.{◌≡◌, Bool, true, ◌&&◌, eqb, leb, List, refl, arith}
-use Rattle.std.specs.List.{AllByRecursion as All}
+use Rattle.std.specs.List.{AllByRecursion}
 use Rattle.std.proofs.lemmas.Bool.{and_parts, eq-eqb, le-leb, leb-true}
-use Rattle.terms.specs.Refusals.{number}
 use Rattle.terms.specs.Tables.{any_of}
 use Rattle.terms.specs.declared.messages.Fill.{Fill}
 use Rattle.terms.proofs.Tables.{and_so, any_find, any_less}
@@ -26,9 +25,9 @@ one_fills : (f : Fill) (e : Entry) → e.login ≡ f.login → e.number ≡ f.nu
 one_fills f e l n d one left =
     and_so _ _ (and_so _ _ (and_so _ _ (eq-eqb _ _ l) (eq-eqb _ _ n)) d) (le-leb f.contracts e.contracts (omega (arith, one, left.0)))
 
-pub pair_trades : (b : Book) → All (All Left) b.resting → crosses b ≡ true → (t : Trade) × (tradeable b t ≡ true)
+pub pair_trades : (b : Book) → AllByRecursion (AllByRecursion Left) b.resting → crosses b ≡ true → (t : Trade) × (tradeable b t ≡ true)
 pair_trades b left h =
-    let s = any_find (All Left) _ b.resting left h in
+    let s = any_find (AllByRecursion Left) _ b.resting left h in
     let es = s.0 in
     let x = any_find Left _ es s.2 s.1 in
     let y = any_find Left _ es s.2 x.1 in

@@ -1,6 +1,6 @@
 -- What a side of a trade does to what rests: its entry loses the contracts and nothing else changes. Assumes nothing.
 use Rattle.std.proofs.Common.{◌≡◌, ℕ, ◌+◌, ◌-◌, ◌≤◌, Bool, true, false, cond, ◌&&◌, ◌||◌, eqb, leb, List, [], ◌∷◌, map, sym, refl, ap, ◌∙◌, ap₂, arith}
-use Rattle.std.specs.List.{AllByRecursion as All}
+use Rattle.std.specs.List.{AllByRecursion}
 use Rattle.std.proofs.lemmas.Bool.{and_parts, eqb-true, leb-true, ne_eqb}
 use Rattle.terms.specs.Tables.{any_of}
 use Rattle.terms.specs.declared.messages.Fill.{Fill}
@@ -16,14 +16,14 @@ Steady p = (e : Entry) (n : ℕ) → p (less n e) ≡ p e
 -- ---- what holds of each entry
 
 pub all_filled :
-    (P : Entry → Type 0) (f : Fill) (es : List Entry) → ((e : Entry) (n : ℕ) → eqb (e.contracts - n) 0 ≡ false → P e → P (less n e)) → All P es
-    → All P (filled_in f es)
+    (P : Entry → Type 0) (f : Fill) (es : List Entry) → ((e : Entry) (n : ℕ) → eqb (e.contracts - n) 0 ≡ false → P e → P (less n e)) → AllByRecursion P es
+    → AllByRecursion P (filled_in f es)
 all_filled P f [] h a = tt
 all_filled P f (e ∷ es) h a = go (fills f e) (eqb (e.contracts - f.contracts) 0) refl (all_filled P f es h a.1)
   where
     go :
-        (b z : Bool) → eqb (e.contracts - f.contracts) 0 ≡ z → All P (filled_in f es)
-        → All P (cond b (cond z (filled_in f es) (less f.contracts e ∷ filled_in f es)) (e ∷ filled_in f es))
+        (b z : Bool) → eqb (e.contracts - f.contracts) 0 ≡ z → AllByRecursion P (filled_in f es)
+        → AllByRecursion P (cond b (cond z (filled_in f es) (less f.contracts e ∷ filled_in f es)) (e ∷ filled_in f es))
     go true true w k = k
     go true false w k = (h e _ w a.0, k)
     go false z w k = (a.0, k)

@@ -1,6 +1,6 @@
 -- A book stays orderly, whatever is taken off, filled and rested; and what a sweep of a login answers is small. Assumes nothing.
 use Rattle.std.proofs.Common.{◌≡◌, ℕ, ◌+◌, ◌-◌, ◌*◌, ◌<◌, ◌≤◌, Bool, true, false, cond, eqb, leb, List, [], ◌∷◌, map, replicate, None, refl, ap, inl, inr, ⊎_elim, arith}
-use Rattle.std.specs.List.{AllByRecursion as All}
+use Rattle.std.specs.List.{AllByRecursion}
 use Rattle.std.proofs.lemmas.Bool.{and_parts, eqb-false, leb-false}
 use Rattle.std.proofs.lemmas.Bool.Decides.{eqb_tells, leb_tells}
 use Rattle.terms.specs.Tables.{at}
@@ -24,7 +24,7 @@ orderly_off q ess o =
     record {
       once = once_off q ess o.once;
       sixteen = λ l. omega (arith, counts_off (of_login l) q ess, o.sixteen l);
-      left = all_map (All Left) (All Left) (without q) ess
+      left = all_map (AllByRecursion Left) (AllByRecursion Left) (without q) ess
           (λ es a. all_weak (λ e. Left e × (q e ≡ false)) Left (without q es) (λ e p. p.0) (all_without Left q es a)) o.left;
     }
 
@@ -38,7 +38,7 @@ orderly_filled f ess o =
     record {
       once = once_filled f ess o.once;
       sixteen = λ l. omega (arith, counts_filled (of_login l) (λ e n. refl) f ess, o.sixteen l);
-      left = all_map (All Left) (All Left) (filled_in f) ess (λ es a. all_filled Left f es less_left a) o.left;
+      left = all_map (AllByRecursion Left) (AllByRecursion Left) (filled_in f) ess (λ es a. all_filled Left f es less_left a) o.left;
     }
 
 pub orderly_rest : (b : Book) (series : ℕ) (e : Entry) → Left e → rest_refusal b e ≡ None → Orderly b.resting → Orderly (rested b series e).resting
@@ -46,8 +46,8 @@ orderly_rest b series e fine h o =
     record {
       once = once_rest b series e h o.once;
       sixteen = room;
-      left = all_put (All Left) b.resting series _
-          (all_joined Left (at [] b.resting series) (e ∷ []) (all_at (All Left) [] b.resting series tt o.left) (fine, tt)) o.left;
+      left = all_put (AllByRecursion Left) b.resting series _
+          (all_joined Left (at [] b.resting series) (e ∷ []) (all_at (AllByRecursion Left) [] b.resting series tt o.left) (fine, tt)) o.left;
     }
   where
     few : counts (of_login e.login) b.resting < 16
@@ -69,11 +69,11 @@ orderly_rest b series e fine h o =
         (eqb_tells e.login l)
 
 pub orderly_none : Orderly (replicate 16 [])
-orderly_none = record { once = λ l n. omega arith; sixteen = λ l. omega arith; left = all_same (All Left) [] 16 tt }
+orderly_none = record { once = λ l n. omega arith; sixteen = λ l. omega arith; left = all_same (AllByRecursion Left) [] 16 tt }
 
 -- ---- sums
 
-total_small : (p : Entry → Bool) (es : List Entry) → All Left es → total p es ≤ 65535 * count p es
+total_small : (p : Entry → Bool) (es : List Entry) → AllByRecursion Left es → total p es ≤ 65535 * count p es
 total_small p [] a = omega arith
 total_small p (e ∷ es) a = go (p e) (total_small p es a.1)
   where
@@ -81,7 +81,7 @@ total_small p (e ∷ es) a = go (p e) (total_small p es a.1)
     go true ih = omega (arith, ih, a.0.1)
     go false ih = omega (arith, ih)
 
-totals_small : (p : Entry → Bool) (ess : List (List Entry)) → All (All Left) ess → totals p ess ≤ 65535 * counts p ess
+totals_small : (p : Entry → Bool) (ess : List (List Entry)) → AllByRecursion (AllByRecursion Left) ess → totals p ess ≤ 65535 * counts p ess
 totals_small p [] a = omega arith
 totals_small p (es ∷ ess) a = omega (arith, total_small p es a.0, totals_small p ess a.1)
 

@@ -1,6 +1,6 @@
 -- The entries that a test picks, apart from all others: what is done to a book is done to them alike. Assumes nothing.
 use Rattle.std.proofs.Common.{◌≡◌, ℕ, ◌+◌, Bool, true, false, cond, not, ◌||◌, List, [], ◌∷◌, ◌++◌, map, sym, refl, ap, ◌∙◌, ap₂, arith}
-use Rattle.std.specs.List.{AllByRecursion as All}
+use Rattle.std.specs.List.{AllByRecursion}
 use Rattle.terms.specs.Tables.{any_of, at, put}
 use Rattle.terms.specs.declared.messages.Fill.{Fill}
 use Rattle.terms.proofs.Tables.{at_map, mixed, put_map}
@@ -26,7 +26,7 @@ only_off p q (e ∷ es) = go (p e) (q e) refl refl (only_off p q es)
     go false false h k ih = rw h ih
 
 -- the same picked, by tests that agree
-only_same : (p q : Entry → Bool) (es : List Entry) → All (λ e. p e ≡ q e) es → only p es ≡ only q es
+only_same : (p q : Entry → Bool) (es : List Entry) → AllByRecursion (λ e. p e ≡ q e) es → only p es ≡ only q es
 only_same p q [] a = refl
 only_same p q (e ∷ es) a = ap₂ (λ (b : Bool) (xs : List Entry). cond (not b) xs (e ∷ xs)) a.0 (only_same p q es a.1)
 
@@ -55,7 +55,7 @@ pub onlys_off : (p q : Entry → Bool) (ess : List (List Entry)) → map (only p
 onlys_off p q [] = refl
 onlys_off p q (es ∷ ess) = ap₂ (λ x xs. x ∷ xs) (only_off p q es) (onlys_off p q ess)
 
-pub onlys_same : (p q : Entry → Bool) (ess : List (List Entry)) → All (All (λ e. p e ≡ q e)) ess → map (only p) ess ≡ map (only q) ess
+pub onlys_same : (p q : Entry → Bool) (ess : List (List Entry)) → AllByRecursion (AllByRecursion (λ e. p e ≡ q e)) ess → map (only p) ess ≡ map (only q) ess
 onlys_same p q [] a = refl
 onlys_same p q (es ∷ ess) a = ap₂ (λ x xs. x ∷ xs) (only_same p q es a.0) (onlys_same p q ess a.1)
 
@@ -153,25 +153,25 @@ nots_filled p f h (es ∷ ess) = ap₂ (λ x xs. x ∷ xs) (not_filled p f h es)
 
 -- ---- what holds of each entry
 
-pub all_without : (P : Entry → Type 0) (q : Entry → Bool) (es : List Entry) → All P es → All (λ e. P e × (q e ≡ false)) (without q es)
+pub all_without : (P : Entry → Type 0) (q : Entry → Bool) (es : List Entry) → AllByRecursion P es → AllByRecursion (λ e. P e × (q e ≡ false)) (without q es)
 all_without P q [] a = tt
 all_without P q (e ∷ es) a = go (q e) refl (all_without P q es a.1)
   where
-    go : (b : Bool) → q e ≡ b → All (λ e. P e × (q e ≡ false)) (without q es)
-        → All (λ e. P e × (q e ≡ false)) (cond b (without q es) (e ∷ without q es))
+    go : (b : Bool) → q e ≡ b → AllByRecursion (λ e. P e × (q e ≡ false)) (without q es)
+        → AllByRecursion (λ e. P e × (q e ≡ false)) (cond b (without q es) (e ∷ without q es))
     go true h k = k
     go false h k = ((a.0, h), k)
 
 -- a test that is so of the entries that p picks is so of each of those
 pub picked_so : (P : Entry → Type 0) (p : Entry → Bool) → ((e : Entry) → p e ≡ true → P e) → (ess : List (List Entry))
-    → All (All P) (map (only p) ess)
+    → AllByRecursion (AllByRecursion P) (map (only p) ess)
 picked_so P p h [] = tt
 picked_so P p h (es ∷ ess) = (each es, picked_so P p h ess)
   where
-    each : (es : List Entry) → All P (only p es)
+    each : (es : List Entry) → AllByRecursion P (only p es)
     each [] = tt
     each (e ∷ es) = go (p e) refl (each es)
       where
-        go : (b : Bool) → p e ≡ b → All P (only p es) → All P (cond (not b) (only p es) (e ∷ only p es))
+        go : (b : Bool) → p e ≡ b → AllByRecursion P (only p es) → AllByRecursion P (cond (not b) (only p es) (e ∷ only p es))
         go true w r = (h e w, r)
         go false w r = r

@@ -1,20 +1,20 @@
 -- Contracts of what rests, added up: by tests that agree, after entries are taken off, after one more rests. Assumes nothing.
 use Rattle.std.proofs.Common.{◌≡◌, ℕ, zero, suc, ◌+◌, ◌≤◌, Bool, true, false, cond, ◌||◌, ◌⊎◌, List, [], ◌∷◌, ◌++◌, map, length, refl, ap, inl, inr, arith}
-use Rattle.std.specs.List.{AllByRecursion as All}
+use Rattle.std.specs.List.{AllByRecursion}
 use Rattle.terms.specs.Tables.{any_of, at, put}
 use Rattle.terms.proofs.Tables.{all_from_each, never, or_so}
 use Rattle.market.specs.Book.{Entry, any_in, total, totals, without}
 
-total_same : (p q : Entry → Bool) (es : List Entry) → All (λ e. p e ≡ q e) es → total p es ≡ total q es
+total_same : (p q : Entry → Bool) (es : List Entry) → AllByRecursion (λ e. p e ≡ q e) es → total p es ≡ total q es
 total_same p q [] a = refl
 total_same p q (e ∷ es) a = omega (arith, ap (λ b. cond b e.contracts 0) a.0, total_same p q es a.1)
 
-pub totals_same : (p q : Entry → Bool) (ess : List (List Entry)) → All (All (λ e. p e ≡ q e)) ess → totals p ess ≡ totals q ess
+pub totals_same : (p q : Entry → Bool) (ess : List (List Entry)) → AllByRecursion (AllByRecursion (λ e. p e ≡ q e)) ess → totals p ess ≡ totals q ess
 totals_same p q [] a = refl
 totals_same p q (es ∷ ess) a = omega (arith, total_same p q es a.0, totals_same p q ess a.1)
 
 pub totals_ext : (p q : Entry → Bool) → ((e : Entry) → p e ≡ q e) → (ess : List (List Entry)) → totals p ess ≡ totals q ess
-totals_ext p q h ess = totals_same p q ess (all_from_each (All (λ e. p e ≡ q e)) (all_from_each (λ e. p e ≡ q e) h) ess)
+totals_ext p q h ess = totals_same p q ess (all_from_each (AllByRecursion (λ e. p e ≡ q e)) (all_from_each (λ e. p e ≡ q e) h) ess)
 
 -- ---- what is taken off
 

@@ -1,5 +1,5 @@
 -- What a market holds: entries that rest, slips that wait. All in plain numbers; the firm is not in it, for a market knows logins only. Assumes nothing.
-use Rattle.std.specs.Prelude.{ℕ, ◌+◌, Bool, true, false, cond, ◌&&◌, ◌||◌, List, [], ◌∷◌, map, length, replicate, ◌==◌}
+use Rattle.std.specs.Prelude.{ℕ, ◌+◌, Bool, cond, ◌&&◌, ◌||◌, List, [], ◌∷◌, map, length, replicate, ◌==◌}
 -- a buyer and a seller by login and number, contracts and price
 pub use Rattle.terms.specs.declared.events.Trade.{Trade}
 use Rattle.terms.specs.declared.messages.Fill.{Fill}

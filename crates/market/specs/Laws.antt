@@ -1,6 +1,6 @@
 -- What holds of the book of any market that was driven by a gate. Assumes nothing.
 use Rattle.std.specs.Prelude.{◌≡◌, ℕ, ◌≤◌, true, List, nat_eq}
-use Rattle.std.specs.List.{AllByRecursion as All}
+use Rattle.std.specs.List.{AllByRecursion}
 use Rattle.market.specs.Book.{Entry, Trade, Book, is_for, in_reach, totals, counts}
 use Rattle.market.specs.Market.{crosses, tradeable}
 
@@ -12,7 +12,7 @@ Left e = (1 ≤ e.contracts) × (e.contracts ≤ 65535)
 pub record Orderly (ess : List (List Entry)) : Type 0 where
   pub once : (login number : ℕ) → counts (is_for login number) ess ≤ 1
   pub sixteen : (login : ℕ) → counts (λ e. nat_eq e.login login) ess ≤ 16
-  pub left : All (All Left) ess
+  pub left : AllByRecursion (AllByRecursion Left) ess
 
 abbrev pub SmallSweeps : List (List Entry) → Type 0
 SmallSweeps ess = (login reach : ℕ) → totals (in_reach login reach) ess ≤ 1048560

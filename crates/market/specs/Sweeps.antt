@@ -1,5 +1,5 @@
 -- Sweeping some logins, each within a reach of its own: one after another, or by one test over all entries. Assumes nothing.
-use Rattle.std.specs.Prelude.{◌≡◌, ℕ, zero, suc, ◌+◌, ◌<◌, Bool, true, false, ◌&&◌, Some, None, Option, ◌==◌}
+use Rattle.std.specs.Prelude.{◌≡◌, ℕ, zero, suc, ◌+◌, Bool, false, ◌&&◌, Some, None, Option, ◌==◌}
 use Rattle.market.specs.Book.{Entry, Book, reaches, totals, taken_off}
 
 -- within a reach, if there is one

@@ -1,5 +1,7 @@
 //! What a market is: a book of what rests and what waits, and what each of its functions answers and does to it.
 
+#![tactic(auto)]
+
 ghost use Rattle.std.specs.Prelude.{◌≡◌, ◌≤◌, length};
 ghost use Rattle.terms.specs.Kinds.{reach_number};
 ghost use Rattle.market.specs.Book.{Book};

@@ -1,5 +1,7 @@
 //! Plays a bare market: rest, withdraw, sweep, strike, slips.
 
+#![tactic(auto)]
+
 mod fault;
 mod play;
 

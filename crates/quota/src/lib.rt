@@ -1,5 +1,7 @@
 //! An example of a check of one's own: each firm may have so many entries accepted, and no more.
 
+#![tactic(auto)]
+
 ghost use Rattle.std.specs.Prelude.{◌≡◌, length, replicate};
 ghost use Rattle.quota.specs.Quotas.{left_after, quota, quota_lawful};
 

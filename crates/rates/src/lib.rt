@@ -1,5 +1,7 @@
 //! The rate windows: how much a login and its firm did of late, and whether it was too much.
 
+#![tactic(auto)]
+
 mod counting;
 mod firms;
 mod routing;

@@ -1,3 +1,4 @@
+#![tactic(auto)]
 // The words and numbers of one line of a text script. Assumes nothing.
 mod decimal;
 mod fields;

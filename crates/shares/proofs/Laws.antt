@@ -1,14 +1,11 @@
 -- The shares sum to R, and none exceeds its maker.
-use mathlib.Core.Path.{◌≡◌, refl, sym, ◌∙◌, ap, subst}
-use mathlib.Core.List.{List, [], ◌∷◌, ◌++◌, append-nil}
+use mathlib.Core.Path.{◌≡◌, refl, ◌∙◌, ap}
+use mathlib.Core.List.{[], ◌∷◌}
 use mathlib.Core.Logic.{◌⊎◌, inl, inr}
-use Prim.Native.Nat.{ℕ, zero, suc, ◌+◌, ◌-◌, ◌*◌, ◌/◌, ◌≤◌, ◌<◌}
-use native.Mathlib.Nat.{add-mul, mul-add, mul_left_comm, mul_comm, mul-zero, mul-le-mul_left, mul-le-mul_right, div-lt_iff_lt-mul, le-div_iff_mul-le, div-zero, one-mul, eq-zero-or-pos, sub-zero}
+use Prim.Native.Nat.{ℕ, zero, suc, ◌+◌, ◌-◌, ◌*◌, ◌≤◌, ◌<◌}
+use native.Mathlib.Nat.{add-mul, mul-add, mul_left_comm, mul_comm, mul-le-mul_left, mul-le-mul_right, div-lt_iff_lt-mul, le-div_iff_mul-le, div-zero, one-mul, eq-zero-or-pos}
 use native.Mathlib.Omega.{arith}
-use lib.ListN.{length, get_or, drop, replicate, replicate-append-replicate}
-use lib.Seq.{drop-cons, drop-length}
-use native.Mathlib.Numerals.{add-one}
-use Rattle.shares.specs.Shares.{sum_of, share, shares, put, positive, First, SharesWorked, SharesSum, SharesWithin, SharesLength}
+use Rattle.shares.specs.Shares.{sum_of, share, SharesWorked, SharesSum, SharesWithin, SharesLength}
 
 pub shares_worked : SharesWorked
 unfolding share

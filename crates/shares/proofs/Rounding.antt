@@ -2,14 +2,13 @@
 use mathlib.Core.Path.{◌≡◌, refl, sym, ◌∙◌, ap, subst}
 use mathlib.Core.List.{List, [], ◌∷◌, ◌++◌, append-nil}
 use mathlib.Core.Logic.{◌⊎◌, inl, inr}
-use Prim.Native.Nat.{ℕ, zero, suc, ◌+◌, ◌-◌, ◌*◌, ◌/◌, ◌≤◌, ◌<◌}
+use Prim.Native.Nat.{ℕ, zero, suc, ◌+◌, ◌-◌, ◌≤◌, ◌<◌}
 use native.Mathlib.Nat.{eq-zero-or-pos, add-zero}
-use native.Mathlib.Numerals.{add-one}
 use native.Mathlib.Omega.{arith}
 use lib.ListN.{length, get_or, drop, take, replicate, length-drop}
 use lib.Seq.{drop-drop, drop_at, drop-append-add, length-take-le}
 use Rattle.shares.specs.Shares.{sum_of, share, shares, put, positive, First}
-use Rattle.shares.specs.Rounds.{Round, opened, pending, Covered, stays, filled, struck, Strike, Strikes, StrikeTakesNext, StrikeKeepsCovered, RoundGoesOn, RoundTradesShares, RoundTradesAll, StrikeAlone}
+use Rattle.shares.specs.Rounds.{Round, opened, pending, Covered, stays, struck, Strikes, StrikeTakesNext, StrikeKeepsCovered, RoundGoesOn, RoundTradesShares, RoundTradesAll, StrikeAlone}
 use Rattle.shares.proofs.Laws.{share_rest, share_left, shares_sum}
 
 -- zeros are dropped

@@ -1,6 +1,6 @@
 -- A round trades the shares one at a time; the laws of it. Assumes nothing.
-use Rattle.std.specs.Prelude.{◌≡◌, List, [], ◌∷◌, ◌++◌, ℕ, zero, suc, ◌+◌, ◌-◌, ◌≤◌, ◌<◌, length, get_or, drop, take}
-use Rattle.shares.specs.Shares.{sum_of, share, shares, put, positive, First}
+use Rattle.std.specs.Prelude.{◌≡◌, List, [], ◌∷◌, ◌++◌, ℕ, zero, suc, ◌+◌, ◌-◌, ◌≤◌, ◌<◌, get_or, drop, take}
+use Rattle.shares.specs.Shares.{sum_of, shares, put, positive, First}
 
 -- A round between strikes: what is left to give out, how many makers still resting were passed, and the contracts of the makers at the
 -- price, oldest first.

@@ -1,5 +1,7 @@
 //! Shares by size: R contracts given out over makers, oldest first.
 
+#![tactic(auto)]
+
 ghost use Rattle.std.specs.Prelude.{◌≡◌, ◌≤◌};
 ghost use Rattle.shares.specs.Shares.{SharesSum, SharesWithin, SharesLength, SharesWorked, share as share_of};
 ghost use Rattle.shares.specs.Rounds.{StrikeTakesNext, StrikeKeepsCovered, RoundGoesOn, RoundTradesShares, RoundTradesAll, StrikeAlone};

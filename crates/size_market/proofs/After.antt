@@ -8,8 +8,8 @@ use Rattle.terms.specs.declared.kinds.Side.{Side}
 use Rattle.terms.specs.declared.kinds.Side.TheVariants.{Buy, Sell}
 use Rattle.market.specs.Book.{Entry, is_for, count}
 use Rattle.market.specs.Market.{fills, less, keep, filled_in, buy_side, sell_side}
-use Rattle.tables.specs.Cross.{at_price, fill_of, names, same, trade_of, Stands}
-use Rattle.tables.proofs.Leaving.{Parted, Left, left, filled_stands}
+use Rattle.tables.specs.Cross.{at_price, fill_of, names, trade_of, Stands}
+use Rattle.tables.proofs.Leaving.{Left, left, filled_stands}
 use Rattle.tables.proofs.Pairs.{is_for_self, unfilled_stands}
 use Rattle.size_market.specs.Size.{other_side, makers_at}
 use Rattle.size_market.proofs.Facing.{buyer, seller, Known}

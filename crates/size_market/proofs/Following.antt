@@ -9,15 +9,15 @@ use Rattle.market.specs.Market.{less}
 use Rattle.market.specs.Seen.{seen}
 use Rattle.tables.specs.Cross.{same}
 use Rattle.tables.proofs.Crossings.{stands_found}
-use Rattle.tables.proofs.Leaving.{Parted, parted}
+use Rattle.tables.proofs.Leaving.{parted}
 use Rattle.shares.specs.Shares.{sum_of, share, shares}
 use Rattle.shares.proofs.Laws.{share_left}
 use Rattle.size_market.specs.declared.round.Round.{Round}
 use Rattle.size_market.specs.declared.round.Due.{Due}
 use Rattle.size_market.specs.Size.{makers_at, trade_with, sizes, given, dealt}
 use Rattle.size_market.specs.Going.{makers_of, ahead, pending_in, within, Going, GoesOn}
-use Rattle.size_market.specs.Steps.{Next, Follows}
-use Rattle.size_market.proofs.Passing.{Ahead, first_ahead}
+use Rattle.size_market.specs.Steps.{Next}
+use Rattle.size_market.proofs.Passing.{first_ahead}
 use Rattle.size_market.proofs.After.{Leaves, past}
 
 -- nothing is given out

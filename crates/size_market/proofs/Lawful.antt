@@ -1,13 +1,13 @@
 -- What holds of every trade, and of a round that opens.
 use Rattle.std.proofs.Common.{◌≡◌, ℕ, ◌≤◌, Bool, true, false, cond, eqb, List, [], ◌∷◌, get_or, Some, None, Option, sym, refl, ap, ◌∙◌, subst, arith}
-use Rattle.std.specs.List.{AllByRecursion as All}
+use Rattle.std.specs.List.{AllByRecursion}
 use Rattle.std.proofs.lemmas.Bool.{cond_both}
 use Rattle.terms.specs.declared.events.Trade.{Trade}
 use Rattle.market.specs.Book.{Entry, Book}
 use Rattle.market.specs.Seen.{seen}
 use Rattle.tables.specs.declared.cross.Crossing as code
 use Rattle.tables.specs.Cross.{on_side, Pair, Crossing, lowest, before, trade_of}
-use Rattle.tables.proofs.Crossings.{Paired, no_pair, buy_leads, sell_leads}
+use Rattle.tables.proofs.Crossings.{no_pair, buy_leads, sell_leads}
 use Rattle.shares.specs.Shares.{sum_of, shares}
 use Rattle.shares.proofs.Laws.{shares_within}
 use Rattle.size_market.specs.declared.round.Due.{Due}
@@ -24,12 +24,12 @@ older_fair es p h =
 with_price : (taker : Entry) (price : ℕ) (m : Entry) (n : ℕ) → (trade_with taker price m n).price ≡ price
 with_price taker price m n = cond_both (on_side 1 taker) (trade_of taker m n price) (trade_of m taker n price) (λ t. t.price ≡ price) (λ _. refl) (λ _. refl)
 
-all_priced : (trade : Entry → ℕ → Trade) (price : ℕ) → ((m : Entry) (n : ℕ) → (trade m n).price ≡ price) → (ms : List Entry) (ss : List ℕ) → All (λ t. t.price ≡ price) (given trade ms ss)
+all_priced : (trade : Entry → ℕ → Trade) (price : ℕ) → ((m : Entry) (n : ℕ) → (trade m n).price ≡ price) → (ms : List Entry) (ss : List ℕ) → AllByRecursion (λ t. t.price ≡ price) (given trade ms ss)
 all_priced trade price h [] ss = tt
 all_priced trade price h (m ∷ ms) [] = tt
 all_priced trade price h (m ∷ ms) (s ∷ ss) = go (eqb s 0) (all_priced trade price h ms ss)
   where
-    go : (b : Bool) → All (λ t. t.price ≡ price) (given trade ms ss) → All (λ t. t.price ≡ price) (cond b (given trade ms ss) (trade m s ∷ given trade ms ss))
+    go : (b : Bool) → AllByRecursion (λ t. t.price ≡ price) (given trade ms ss) → AllByRecursion (λ t. t.price ≡ price) (cond b (given trade ms ss) (trade m s ∷ given trade ms ss))
     go true r = r
     go false r = (h m s, r)
 

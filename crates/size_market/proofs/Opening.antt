@@ -7,11 +7,11 @@ use Rattle.market.specs.Book.{Entry, Book, total}
 use Rattle.market.specs.Seen.{seen}
 use Rattle.tables.specs.Cross.{on_side, at_price, Pair, pair_in, lowest, before, Stands}
 use Rattle.tables.specs.Held.{Apart}
-use Rattle.tables.proofs.Crossings.{Paired, pair_parts, pair_meets, pair_weighs, Lowest, lowest_is, nothing_crosses, stands_found}
+use Rattle.tables.proofs.Crossings.{Paired, pair_parts, pair_meets, pair_weighs, lowest_is, nothing_crosses, stands_found}
 use Rattle.shares.specs.Shares.{sum_of}
 use Rattle.size_market.specs.declared.round.Round.{Round}
 use Rattle.size_market.specs.Size.{older, younger, other_side, makers_at, trade_with, sizes, dealt, amount, opened_by, due}
-use Rattle.size_market.specs.Going.{ahead, pending_at, pending_in, within, Going, Sound}
+use Rattle.size_market.specs.Going.{ahead, pending_at, pending_in, within, Sound}
 use Rattle.size_market.specs.Steps.{Current}
 use Rattle.size_market.proofs.Keeping.{going}
 use Rattle.size_market.proofs.Dealing.{dealt_sum, not_over}

@@ -1,5 +1,5 @@
 -- Strikes in a round make its trades in order.
-use Rattle.std.proofs.Common.{◌≡◌, ℕ, ◌+◌, ◌≤◌, Bool, true, false, cond, List, [], ◌∷◌, ◌++◌, length, Some, None, Ok, Err, sym, refl, ap, ◌∙◌, arith}
+use Rattle.std.proofs.Common.{◌≡◌, ℕ, ◌+◌, ◌≤◌, Bool, true, false, cond, List, [], ◌∷◌, ◌++◌, length, Some, Ok, Err, refl, ap, arith}
 use Rattle.terms.specs.declared.events.Trade.{Trade}
 use Rattle.terms.specs.declared.refusal.Refusal.TheVariants.{SlipsFull}
 use Rattle.market.specs.Book.{Book}

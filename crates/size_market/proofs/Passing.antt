@@ -4,7 +4,7 @@ use Rattle.chains.specs.Asks.{oldest}
 use Rattle.market.specs.Book.{Entry}
 use Rattle.market.specs.Seen.{seen}
 use Rattle.tables.specs.Cross.{at_price}
-use Rattle.tables.proofs.Leaving.{Parted, parted}
+use Rattle.tables.proofs.Leaving.{parted}
 use Rattle.shares.specs.Shares.{sum_of, share}
 use Rattle.shares.proofs.Laws.{share_le, share_left, share_rest}
 use Rattle.size_market.specs.declared.round.Round.{Round}

@@ -20,11 +20,11 @@ use Rattle.shares.specs.Shares.{sum_of, share}
 use Rattle.size_market.specs.declared.round.Round.{Round}
 use Rattle.size_market.specs.declared.round.Due.{Due}
 use Rattle.size_market.specs.Size.{trade_with, dealt, due, answer_of, size_answer, left_of, round_after}
-use Rattle.size_market.specs.Going.{makers_of, ahead, pending_in, Going, GoesOn}
+use Rattle.size_market.specs.Going.{makers_of, ahead, pending_in, GoesOn}
 use Rattle.size_market.specs.Steps.{Current, IsDue, facing, crossing_of, Next}
 use Rattle.size_market.proofs.Dealing.{dealt_sum, traded_first}
 use Rattle.size_market.proofs.Passing.{Ahead, first_ahead}
-use Rattle.size_market.proofs.Facing.{buyer, seller, Known, known, Faces, faces, faces_fair, going_crosses, trade_by_side}
+use Rattle.size_market.proofs.Facing.{buyer, seller, known, Faces, faces, faces_fair, going_crosses, trade_by_side}
 use Rattle.size_market.proofs.After.{Leaves, both, leaves}
 use Rattle.size_market.proofs.Following.{left_after, LeavesRound, follows}
 

@@ -2,7 +2,7 @@
 use Rattle.std.specs.Prelude.{List}
 use Rattle.terms.specs.declared.events.Trade.{Trade}
 use Rattle.tables.specs.Held.{resting_of}
-use Rattle.size_market.specs.declared.market.SizeMarket.{SizeMarket}
+use Rattle.size_market.specs.declared.state.SizeMarket.{SizeMarket}
 use Rattle.size_market.specs.Going.{pending_in}
 
 abbrev pub round_of : SizeMarket → List Trade

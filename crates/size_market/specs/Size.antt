@@ -1,7 +1,7 @@
 -- The market by size: which round opens, what a strike answers, and what is left of the round. A round is the list of trades that it has still to make, [] where none
 -- is open. Assumes nothing.
 use Rattle.std.specs.Prelude.{◌≡◌, ℕ, ◌-◌, ◌<◌, ◌≤◌, min, Bool, false, cond, List, [], ◌∷◌, map, length, Some, None, Ok, Err, filter, Option, Result, ◌==◌, slice_index, slice_index_or}
-use Rattle.std.specs.List.{AllByRecursion as All}
+use Rattle.std.specs.List.{AllByRecursion}
 use Rattle.terms.specs.declared.events.Trade.{Trade}
 use Rattle.terms.specs.declared.refusal.Refusal.{Refusal}
 use Rattle.terms.specs.declared.refusal.Refusal.TheVariants.{SlipsFull}
@@ -107,7 +107,7 @@ pub record Opens (b : Book) (ts : List Trade) : Type 0 where
   pub sell_leads : Leads cheaper (filter (on_side 2) (slice_index_or b.resting series [])) (Some pair.sell)
   pub low : pair.sell.price ≤ (older (slice_index_or b.resting series []) pair).price
   pub high : (older (slice_index_or b.resting series []) pair).price ≤ pair.buy.price
-  pub prices : All (λ t. t.price ≡ (older (slice_index_or b.resting series []) pair).price) ts
+  pub prices : AllByRecursion (λ t. t.price ≡ (older (slice_index_or b.resting series []) pair).price) ts
   pub amounts : map (λ t. t.contracts) ts ≡ pending (opened (amount_of (slice_index_or b.resting series []) pair) (sizes_of (slice_index_or b.resting series []) pair))
   pub sum : sum_of (map (λ t. t.contracts) ts) ≡ amount_of (slice_index_or b.resting series []) pair
   pub none_above : (k : ℕ) → slice_index (shares (amount_of (slice_index_or b.resting series []) pair) (sizes_of (slice_index_or b.resting series []) pair)) k ≤ slice_index (sizes_of (slice_index_or b.resting series []) pair) k

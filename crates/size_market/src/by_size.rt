@@ -2,7 +2,7 @@
 
 ghost use Rattle.std.specs.Prelude.{◌≡◌, ◌-◌, ◌≤◌, [], length};
 ghost use Rattle.terms.specs.Kinds.{reach_number};
-ghost use Rattle.market.specs.Book.{empty as emptyBook};
+ghost use Rattle.market.specs.Book.{empty as empty_book};
 ghost use Rattle.market.specs.Market.{Rested, Withdrawn, Swept, Struck, Dropped};
 ghost use Rattle.market.specs.Seen.{seen, seen_oldest};
 ghost use Rattle.tables.specs.Cross.{Even};
@@ -10,8 +10,8 @@ ghost use Rattle.tables.specs.Held.{book_of, LongEnough};
 ghost use Rattle.size_market.specs.Size.{size_answer, round_after, ended_by, Lawful};
 ghost use Rattle.size_market.specs.Meaning.{round_of};
 
-use crate::market::SizeMarket;
 use crate::round::kept;
+use crate::state::SizeMarket;
 use crate::strikes::{current, next_due};
 use chains::Slot;
 use market::Market;
@@ -22,7 +22,7 @@ impl<'a> SizeMarket<'a> {
     /// An empty market over slots that are long enough, which `tables::long_enough` tells. The first slot of each is not used.
     pub fn new(entries: &'a mut [Slot<Entry>], slips: &'a mut [Slot<Slip>]) -> SizeMarket<'a>
         requires { LongEnough (length entries.old) (length slips.old) }
-        ensures empty { book_of result.tables ≡ emptyBook (length slips.old - 1) }
+        ensures empty { book_of result.tables ≡ empty_book (length slips.old - 1) }
         ensures round { round_of result ≡ [] }
     {
         SizeMarket {

@@ -1,5 +1,7 @@
 //! The standard pile: size, put and call, limit price and rates, in that order.
 
+#![tactic(auto)]
+
 ghost use Rattle.standard.specs.Standard.{Fresh};
 
 use checks::{ByValues, LimitPrice, Pile, PutAndCall, Size};

@@ -1,5 +1,5 @@
 -- What a change of the book does to counts: an entry more, entries less; and what bounds them.
-use Rattle.std.proofs.Common.{◌≡◌, ℕ, zero, suc, ◌+◌, ◌*◌, ◌<◌, ◌≤◌, Bool, true, false, cond, not, ◌&&◌, eqb, List, [], ◌∷◌, ◌++◌, map, length, get_or, set, sum_by, sym, refl, ap, ◌∙◌, subst, ⊎_elim, arith, eq-eqb, ne_eqb}
+use Rattle.std.proofs.Common.{◌≡◌, ℕ, zero, suc, ◌+◌, ◌*◌, ◌<◌, ◌≤◌, Bool, true, false, cond, eqb, List, [], ◌∷◌, ◌++◌, map, length, get_or, set, sum_by, refl, ap, ⊎_elim, arith, eq-eqb, ne_eqb}
 use Rattle.std.proofs.lemmas.List.Sums.{sum_by-cons}
 use Rattle.std.proofs.lemmas.Bool.{cases_eq, cond-true, cond-false, and_parts}
 use Rattle.terms.specs.Tables.{up_to}
@@ -7,7 +7,7 @@ use Rattle.terms.specs.declared.entries.Entry.{Entry}
 use Rattle.market.specs.Book as book
 use Rattle.market.specs.Book.{total, totals, count, counts, without, is_for, in_reach}
 use Rattle.market.specs.Seen.{seen}
-use Rattle.tables.specs.Held.{Few, Apart}
+use Rattle.tables.specs.Held.{Few}
 
 -- ---- an entry more
 

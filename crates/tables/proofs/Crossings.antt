@@ -1,17 +1,16 @@
 -- What is known of the lowest series that crosses, and of its pair.
-use Rattle.std.proofs.Common.{◌≡◌, ℕ, zero, suc, ◌+◌, ◌-◌, ◌<◌, ◌≤◌, Bool, true, false, cond, not, ◌&&◌, ◌||◌, eqb, ltb, leb, ◌⊎◌, List, [], ◌∷◌, ◌++◌, map, length, get_or, drop, Some, None, fold, filter, Option, sym, refl, ap, ◌∙◌, subst, inl, inr, ⊎_elim, arith, le-leb}
-use borrow.Author.Tests.{lt-leb}
+use Rattle.std.proofs.Common.{◌≡◌, ℕ, zero, suc, ◌+◌, ◌<◌, ◌≤◌, Bool, true, false, cond, ◌||◌, eqb, ltb, leb, ◌⊎◌, List, [], ◌∷◌, length, get_or, drop, Some, None, fold, filter, Option, sym, refl, ap, ◌∙◌, subst, inl, inr, ⊎_elim, arith, le-leb}
 use Rattle.std.specs.Option.{option_map}
 use Rattle.std.specs.Cmp.{IsStrictWeakOrder}
 use Rattle.std.specs.List.{best_of}
 use Rattle.std.proofs.lemmas.List.MinMax.{IsStrictWeakOrder-by_number, IsStrictWeakOrder-flip, IsFirstBest-from_best_of}
 use Rattle.std.proofs.lemmas.List.{get_or_default}
-use Rattle.std.proofs.lemmas.Bool.{cases_Bool, cond-true, cond-false, and_parts, and_from, or_left, or_right, or_from, eqb-true, eq-eqb, ltb-false, leb-true, leb-false, both_ways}
+use Rattle.std.proofs.lemmas.Bool.{cases_Bool, cond-true, cond-false, and_parts, and_from, or_left, or_right, or_from, eqb-true, eq-eqb, ltb-false, leb-true}
 use Rattle.chains.specs.Asks.{oldest, preferred, best, Leads}
 use Rattle.terms.specs.Tables.{any_of}
-use Rattle.market.specs.Book.{Entry, Book, is_for, count, counts, total}
-use Rattle.market.specs.Market.{cross, crosses}
-use Rattle.tables.specs.Cross.{on_side, at_price, dearer, cheaper, best_buy, best_sell, Pair, paired, pair_in, Crossing, or_else, crossing_from, lowest, names, same, Stands, Meet}
+use Rattle.market.specs.Book.{Entry, is_for, count, counts, total}
+use Rattle.market.specs.Market.{cross}
+use Rattle.tables.specs.Cross.{on_side, at_price, dearer, cheaper, best_buy, best_sell, Pair, paired, pair_in, Crossing, or_else, crossing_from, names, same, Stands, Meet}
 use Rattle.tables.specs.Held.{Apart}
 use Rattle.tables.proofs.Books.{counts_narrower}
 use Rattle.tables.proofs.Pairs.{is_for_self, any_at, stands_any}

@@ -1,7 +1,7 @@
 -- What a call does, once its refusal is known; and books that are equal part by part.
-use Rattle.std.proofs.Common.{◌≡◌, ℕ, List, Some, None, Ok, Err, Option, sym, refl, ap}
+use Rattle.std.proofs.Common.{◌≡◌, Some, None, Ok, Err, Option, sym, ap}
 use Rattle.terms.specs.Answers.{given, unless, Does}
-use Rattle.market.specs.Book.{Book, Entry, Slip}
+use Rattle.market.specs.Book.{Book}
 
 pub refused : {S X F : Type 0} (o : Option F) (f : F) (x : X) (before after : S) → o ≡ Some f → Does o x before after (Err f) before
 refused o f x before after e = (ap (λ v. given v x) (sym e), ap (λ v. unless v before after) (sym e))

@@ -1,17 +1,16 @@
 -- Entries less: what is taken off, what it had, and what it leaves.
-use Rattle.std.proofs.Common.{◌≡◌, ℕ, ◌+◌, ◌-◌, ◌^◌, ◌<◌, ◌≤◌, min, Bool, true, false, cond, not, eqb, List, [], ◌∷◌, map, length, Some, None, Ok, Err, sym, refl, ap, ◌∙◌, subst, arith, le-ltb, lt-ltb}
+use Rattle.std.proofs.Common.{◌≡◌, ℕ, ◌<◌, ◌≤◌, Bool, true, not, eqb, List, map, Ok, Err, sym, ap, ◌∙◌, subst, arith, le-ltb, lt-ltb}
 use Rattle.std.proofs.lemmas.Bool.{cond-true, cond-false, not_from_true, not_from_false}
 use Rattle.chains.specs.Sound.{Kept}
 use Rattle.chains.specs.Asks.{without_all, saturated}
 use Rattle.chains.specs.Lists.{lists, places}
 use Rattle.terms.specs.declared.refusal.Refusal.TheVariants.{NoOrder}
-use Rattle.terms.specs.declared.entries.Entry.{Entry}
 use Rattle.market.specs.Book as book
 use Rattle.market.specs.Book.{Book, is_for, counts, any_in, totals, without, taken_off}
 use Rattle.market.specs.Market.{Withdrawn, withdraw_refusal}
 use Rattle.market.specs.Seen.{seen, seen_slip}
 use Rattle.tables.specs.declared.held.Tables.{Tables}
-use Rattle.tables.specs.Held.{book_of, resting_of, slips_of, Few, Apart, Good}
+use Rattle.tables.specs.Held.{book_of, resting_of, Few, Apart, Good}
 use Rattle.tables.specs.Tally.{weighed}
 use Rattle.tables.proofs.Listed.{any_counts, without_seen, totals_seen}
 use Rattle.tables.proofs.Books.{counts_without, login_total}

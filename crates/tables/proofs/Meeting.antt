@@ -1,15 +1,13 @@
 -- The best of a list seen through a function, and the walk to the lowest series that crosses.
-use Rattle.std.proofs.Common.{◌≡◌, ℕ, zero, suc, ◌+◌, ◌<◌, ◌≤◌, Bool, true, false, cond, not, ◌&&◌, ◌||◌, ltb, leb, List, [], ◌∷◌, ◌++◌, map, length, get_or, drop, Some, None, fold, filter, Option, sym, refl, ap, ◌∙◌, subst, ⊎_elim, add-one, arith, le-leb}
-use borrow.Author.Tests.{lt-leb}
+use Rattle.std.proofs.Common.{◌≡◌, ℕ, suc, ◌+◌, ◌<◌, ◌≤◌, Bool, true, false, cond, not, ◌&&◌, ◌||◌, List, [], ◌∷◌, map, length, get_or, drop, Some, None, fold, filter, Option, sym, refl, ap, ◌∙◌, add-one}
 use Rattle.std.specs.Option.{option_map}
 use Rattle.std.proofs.lemmas.List.{drop_more, drop_all, get_or-map}
-use Rattle.std.proofs.lemmas.Bool.{cond-true, cond-false}
 use Rattle.chains.specs.Asks.{preferred, best, oldest}
 use Rattle.terms.specs.declared.entries.Entry.{Entry}
 use Rattle.market.specs.Book as book
 use Rattle.market.specs.Book.{is_for}
 use Rattle.market.specs.Seen.{seen}
-use Rattle.tables.specs.Cross.{Pair, Crossing, paired, pair_in, or_else, crossing_from, lowest, before}
+use Rattle.tables.specs.Cross.{Crossing, pair_in, or_else, crossing_from, before}
 use Rattle.tables.proofs.Listed.{cond_out, kept_map}
 
 -- ---- the best

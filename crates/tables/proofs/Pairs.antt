@@ -1,14 +1,14 @@
 -- A buy and a sell of one series: what a trade of the two asks, and what it does.
-use Rattle.std.proofs.Common.{◌≡◌, ℕ, zero, suc, ◌+◌, ◌-◌, ◌<◌, ◌≤◌, Bool, true, false, cond, not, ◌&&◌, ◌||◌, eqb, ltb, leb, ◌⊎◌, List, [], ◌∷◌, ◌++◌, map, length, get_or, Some, None, Ok, Err, filter, Option, sym, refl, ap, ◌∙◌, subst, inl, inr, ⊎_elim, arith, le-leb}
+use Rattle.std.proofs.Common.{◌≡◌, ℕ, zero, suc, ◌+◌, ◌<◌, Bool, true, false, cond, ◌&&◌, eqb, leb, ◌⊎◌, List, [], ◌∷◌, map, length, get_or, Some, Ok, filter, sym, refl, ap, ◌∙◌, subst, inl, inr, ⊎_elim, arith, le-leb}
 use Rattle.std.proofs.lemmas.List.{get_or-map}
-use Rattle.std.proofs.lemmas.Bool.{cases_Bool, cond-true, cond-false, and_parts, and_from, or_left, or_right, eqb-true, eq-eqb, ne_eqb, ltb-false}
+use Rattle.std.proofs.lemmas.Bool.{cases_Bool, cond-true, cond-false, and_parts, and_from, or_left, or_right, eqb-true, eq-eqb}
 use Rattle.chains.specs.Asks.{oldest}
 use Rattle.terms.specs.declared.events.Trade.{Trade}
 use Rattle.terms.specs.declared.events.Party.{Party}
 use Rattle.terms.specs.declared.messages.Fill.{Fill}
 use Rattle.terms.specs.Tables.{any_of}
-use Rattle.market.specs.Book.{Entry, Book, is_for, totals, slip_count}
-use Rattle.market.specs.Market.{fills, fillable, less, keep, filled_in, side_traded, buy_side, sell_side, traded, tradeable, slips_full, Struck}
+use Rattle.market.specs.Book.{Entry, Book, is_for, totals}
+use Rattle.market.specs.Market.{fills, fillable, less, filled_in, side_traded, buy_side, sell_side, traded, tradeable, slips_full, Struck}
 use Rattle.tables.specs.Cross.{on_side, fill_of, trade_of, names, Stands, Meet, Fair, BothLose}
 
 -- ---- a test that one that stands meets

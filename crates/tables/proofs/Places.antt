@@ -1,5 +1,5 @@
 -- Tables numbered from 1, by place.
-use Rattle.std.proofs.Common.{◌≡◌, ℕ, suc, ◌+◌, List, get_or, set, sym, refl, ap, ◌∙◌, subst, add-one}
+use Rattle.std.proofs.Common.{◌≡◌, ℕ, ◌+◌, List, get_or, set, sym, ap, ◌∙◌, add-one}
 use Rattle.terms.specs.Tables.{at, put}
 
 pub at_place : {X : Type 0} (d : X) (xs : List X) (i v : ℕ) → i + 1 ≡ v → at d xs v ≡ get_or xs i d

@@ -1,5 +1,5 @@
 -- An entry more: where it is refused, and what it leaves.
-use Rattle.std.proofs.Common.{◌≡◌, ℕ, ◌+◌, ◌<◌, ◌≤◌, Bool, true, false, cond, ◌&&◌, eqb, ltb, leb, List, [], ◌∷◌, ◌++◌, map, length, get_or, set, Some, None, Ok, Err, sum_by, sym, refl, ap, ◌∙◌, subst, ⊎_elim, arith, le-ltb, lt-ltb, le-leb}
+use Rattle.std.proofs.Common.{◌≡◌, ℕ, ◌+◌, ◌<◌, ◌≤◌, Bool, true, false, cond, eqb, ltb, leb, List, [], ◌∷◌, ◌++◌, map, length, get_or, set, Some, None, Ok, Err, sum_by, sym, refl, ap, ◌∙◌, subst, ⊎_elim, arith, le-ltb, lt-ltb, le-leb}
 use borrow.Author.Tests.{lt-leb}
 use Rattle.std.proofs.lemmas.List.{length-map, map-set, map_push, get_or-map}
 use Rattle.std.proofs.lemmas.Bool.{cases_eq, cases_Bool, cond-true, cond-false, and_parts, eqb-true, ne_eqb}
@@ -7,13 +7,12 @@ use Rattle.chains.specs.Sound.{Kept}
 use Rattle.chains.specs.Lists.{lists, places, changed, appended}
 use Rattle.terms.specs.declared.refusal.Refusal.TheVariants.{InUse, Allotment}
 use Rattle.terms.specs.declared.entries.Entry.{Entry}
-use Rattle.terms.specs.Tables.{at, put}
 use Rattle.market.specs.Book as book
 use Rattle.market.specs.Book.{Book, is_for, counts, any_in}
 use Rattle.market.specs.Market.{Rested, rest_refusal, rested}
 use Rattle.market.specs.Seen.{seen, seen_slip}
 use Rattle.tables.specs.declared.held.Tables.{Tables}
-use Rattle.tables.specs.Held.{book_of, resting_of, slips_of, Few, Apart, Good}
+use Rattle.tables.specs.Held.{book_of, resting_of, Few, Apart, Good}
 use Rattle.tables.proofs.Listed.{any_counts}
 use Rattle.tables.proofs.Places.{at_place, put_place}
 use Rattle.tables.proofs.Books.{counts_append, room_left}

@@ -1,16 +1,13 @@
 -- The oldest slip of a login, and tables with nothing in them.
-use Rattle.std.proofs.Common.{◌≡◌, ℕ, zero, suc, ◌+◌, ◌<◌, ◌≤◌, Bool, true, false, eqb, List, [], ◌∷◌, map, length, get_or, drop, set, replicate, sum_by, Option, sym, refl, ap, ◌∙◌, subst, ⊎_elim, arith}
+use Rattle.std.proofs.Common.{◌≡◌, ℕ, zero, suc, ◌+◌, ◌<◌, Bool, true, false, eqb, List, [], ◌∷◌, map, length, get_or, drop, set, replicate, sum_by, Option, sym, refl, ap, ◌∙◌, subst, ⊎_elim, arith}
 use Rattle.std.proofs.lemmas.Bool.{cases_eq, eq-eqb, ne_eqb}
-use Rattle.std.specs.Option.{option_map}
 use Rattle.std.proofs.lemmas.List.{length-map, get_or-map}
 use Rattle.std.proofs.lemmas.List.Sums.{sum_by-cons}
 use Rattle.chains.specs.Sound.{Kept}
 use Rattle.chains.specs.Asks as asks
 use Rattle.chains.specs.Lists.{lists, places, changed}
 use Rattle.terms.specs.declared.entries.Slip.{Slip}
-use Rattle.terms.specs.Tables.{at, put}
-use Rattle.market.specs.Book as book
-use Rattle.market.specs.Book.{Book, empty, waiting_of}
+use Rattle.market.specs.Book.{empty, waiting_of}
 use Rattle.market.specs.Market.{oldest, younger, Shown, Dropped, dropped, Bare}
 use Rattle.market.specs.Seen.{seen, seen_slip, seen_oldest}
 use Rattle.tables.specs.declared.held.Tables.{Tables}

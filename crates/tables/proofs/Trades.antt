@@ -1,7 +1,7 @@
 -- One side of a trade: its entry filled in place, and its slip.
-use Rattle.std.proofs.Common.{◌≡◌, ℕ, zero, suc, ◌+◌, ◌-◌, ◌<◌, ◌≤◌, Bool, true, false, cond, not, ◌&&◌, ◌||◌, eqb, ltb, leb, ◌⊎◌, List, [], ◌∷◌, ◌++◌, map, length, get_or, set, Some, None, sum_by, filter, Option, sym, refl, ap, ◌∙◌, subst, inl, inr, ⊎_elim, arith, le-ltb, lt-ltb, le-leb}
+use Rattle.std.proofs.Common.{◌≡◌, ℕ, zero, suc, ◌+◌, ◌-◌, ◌<◌, ◌≤◌, Bool, true, false, cond, not, eqb, ltb, leb, ◌⊎◌, List, [], ◌∷◌, ◌++◌, map, length, get_or, set, Some, sum_by, filter, sym, refl, ap, ◌∙◌, subst, inl, inr, ⊎_elim, arith, le-ltb, lt-ltb, le-leb}
 use borrow.Author.Tests.{lt-leb}
-use Rattle.std.proofs.lemmas.List.{length-map, map-append, get_or-map}
+use Rattle.std.proofs.lemmas.List.{length-map, map-append}
 use Rattle.std.proofs.lemmas.List.Sums.{sum_by-cons}
 use Rattle.std.proofs.lemmas.Bool.{cases_Bool, cases_lt, cond-true, cond-false, and_parts, eqb-true, eq-eqb, ne_eqb}
 use Rattle.chains.specs.Sound.{Kept}
@@ -11,7 +11,6 @@ use Rattle.chains.proofs.Totals.{total_appended}
 use Rattle.terms.specs.declared.entries.Entry.{Entry}
 use Rattle.terms.specs.declared.entries.Slip.{Slip}
 use Rattle.terms.specs.declared.messages.Fill.{Fill}
-use Rattle.terms.specs.Tables.{at, put}
 use Rattle.market.specs.Book as book
 use Rattle.market.specs.Book.{Book, total, totals, count, counts, is_for, slip_count, slip_of, with_resting, with_slips_of, waiting_of}
 use Rattle.market.specs.Market.{fills, less, keep, filled_in, side_traded, slips_full}

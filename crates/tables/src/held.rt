@@ -2,7 +2,7 @@
 
 ghost use Rattle.std.specs.Prelude.{◌≡◌, ◌-◌, ◌≤◌, map, length};
 ghost use Rattle.terms.specs.Kinds.{reach_number};
-ghost use Rattle.market.specs.Book.{empty as emptyBook};
+ghost use Rattle.market.specs.Book.{empty as empty_book};
 ghost use Rattle.chains.specs.Sound.{Kept};
 ghost use Rattle.chains.specs.Asks.{without_all, saturated};
 ghost use Rattle.chains.specs.Lists.{lists, places as places_of};
@@ -158,7 +158,7 @@ impl<'a> Tables<'a> {
     pub fn new(entries: &'a mut [Slot<Entry>], slips: &'a mut [Slot<Slip>]) -> Tables<'a>
         requires { LongEnough (length entries.old) (length slips.old) }
         ensures good { Good result }
-        ensures empty { book_of result ≡ emptyBook (length slips.old - 1) }
+        ensures empty { book_of result ≡ empty_book (length slips.old - 1) }
     {
         Tables {
             entries: Chains::new(entries),

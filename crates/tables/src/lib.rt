@@ -1,5 +1,7 @@
 //! The two tables that a market lies in, entries and slips, and what every market does with them.
 
+#![tactic(auto)]
+
 mod cross;
 mod held;
 mod levels;

@@ -2,7 +2,7 @@
 
 ghost use Rattle.std.specs.Prelude.{◌≡◌, ◌||◌, ◌==◌};
 ghost use Rattle.terms.specs.Kinds.{reach_number, kind_number, side_number};
-ghost use Rattle.market.specs.Book.{is_for, in_reach, reaches as reachesKind};
+ghost use Rattle.market.specs.Book.{is_for, in_reach, reaches as reaches_kind};
 ghost use Rattle.market.specs.Seen.{seen};
 ghost use Rattle.tables.specs.Cross.{on_side, at_price, names, dearer, cheaper};
 
@@ -55,7 +55,7 @@ impl Test<Entry> for InReach {
 
 /// Whether a reach takes a kind.
 fn reaches(reach: Reach, kind: Kind) -> bool
-    ensures { result ≡ reachesKind (reach_number reach) (kind_number kind) }
+    ensures { result ≡ reaches_kind (reach_number reach) (kind_number kind) }
 {
     match reach {
         Reach::Both => true,

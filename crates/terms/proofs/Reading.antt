@@ -1,5 +1,5 @@
 -- A number in its range is read as itself, and any other is not read. Assumes nothing.
-use Rattle.std.proofs.Common.{◌≡◌, ℕ, ◌<◌, ◌≤◌, Bool, true, false, ◌&&◌, T, leb, Some, None, Ok, Err, Option, Result, sym, refl, ap, ◌∙◌, arith, le→leb, leb→le}
+use Rattle.std.proofs.Common.{◌≡◌, ℕ, ◌<◌, ◌≤◌, Bool, true, false, ◌&&◌, T, leb, Some, None, Ok, Err, Option, refl, ap, ◌∙◌, arith, le→leb, leb→le}
 use native.Mathlib.Bridge.{le_prop}
 use Rattle.terms.specs.declared.bounded.Bounded.{Bounded}
 use Rattle.terms.specs.declared.refusal.Refusal.{Refusal}

@@ -1,6 +1,6 @@
 -- Reading and writing tables numbered from 1, and what holds of each of a list. Assumes nothing.
 use Rattle.std.proofs.Common.{◌≡◌, ℕ, zero, suc, ◌+◌, ◌<◌, ◌≤◌, Bool, true, false, cond, ◌&&◌, ◌||◌, eqb, ◌⊎◌, List, [], ◌∷◌, ◌++◌, map, length, get_or, replicate, sym, refl, ap, ◌∙◌, inl, inr, ⊎_elim, arith, length-set, get_or-set_other, get_or-set_same}
-use Rattle.std.specs.List.{AllByRecursion as All}
+use Rattle.std.specs.List.{AllByRecursion}
 use Rattle.std.proofs.lemmas.List.{get_or_past}
 use Rattle.std.proofs.lemmas.Bool.{and_parts, eq-eqb, ne_eqb}
 use Rattle.std.proofs.lemmas.Bool.Decides.{eqb_tells, leb_tells}
@@ -84,7 +84,7 @@ length_map f (x ∷ xs) = ap suc (length_map f xs)
 -- ---- what holds of each of a list
 
 module _ {X : Type 0} (P : X → Type 0) where
-  pub any_all : (q : X → Bool) (xs : List X) → All P xs → any_of q xs ≡ true → (x : X) × P x × (q x ≡ true)
+  pub any_all : (q : X → Bool) (xs : List X) → AllByRecursion P xs → any_of q xs ≡ true → (x : X) × P x × (q x ≡ true)
   any_all q [] a e = mixed _ (sym e)
   any_all q (x ∷ xs) a e = go (q x) refl e (any_all q xs a.1)
     where
@@ -92,7 +92,7 @@ module _ {X : Type 0} (P : X → Type 0) where
       go true h k ih = (x, a.0, h)
       go false h k ih = ih k
 
-  pub all_any : (q : X → Bool) (xs : List X) → ((x : X) → P x → q x ≡ true → ⊥) → All P xs → any_of q xs ≡ false
+  pub all_any : (q : X → Bool) (xs : List X) → ((x : X) → P x → q x ≡ true → ⊥) → AllByRecursion P xs → any_of q xs ≡ false
   all_any q [] n a = refl
   all_any q (x ∷ xs) n a = go (q x) refl (all_any q xs n a.1)
     where
@@ -100,36 +100,36 @@ module _ {X : Type 0} (P : X → Type 0) where
       go true h k = never _ (n x a.0 h)
       go false h k = k
 
-  pub all_at : (d : X) (xs : List X) (l : ℕ) → P d → All P xs → P (at d xs l)
+  pub all_at : (d : X) (xs : List X) (l : ℕ) → P d → AllByRecursion P xs → P (at d xs l)
   all_at d xs zero pd a = pd
   all_at d [] (suc i) pd a = pd
   all_at d (x ∷ xs) (suc zero) pd a = a.0
   all_at d (x ∷ xs) (suc (suc i)) pd a = all_at d xs (suc i) pd a.1
 
-  pub all_put : (xs : List X) (l : ℕ) (x : X) → P x → All P xs → All P (put xs l x)
+  pub all_put : (xs : List X) (l : ℕ) (x : X) → P x → AllByRecursion P xs → AllByRecursion P (put xs l x)
   all_put xs zero x px a = a
   all_put [] (suc i) x px a = tt
   all_put (y ∷ xs) (suc zero) x px a = (px, a.1)
   all_put (y ∷ xs) (suc (suc i)) x px a = (a.0, all_put xs (suc i) x px a.1)
 
-  pub all_joined : (xs ys : List X) → All P xs → All P ys → All P (xs ++ ys)
+  pub all_joined : (xs ys : List X) → AllByRecursion P xs → AllByRecursion P ys → AllByRecursion P (xs ++ ys)
   all_joined [] ys a b = b
   all_joined (x ∷ xs) ys a b = (a.0, all_joined xs ys a.1 b)
 
-pub all_map : {X : Type 0} (P Q : X → Type 0) (f : X → X) (xs : List X) → ((x : X) → P x → Q (f x)) → All P xs → All Q (map f xs)
+pub all_map : {X : Type 0} (P Q : X → Type 0) (f : X → X) (xs : List X) → ((x : X) → P x → Q (f x)) → AllByRecursion P xs → AllByRecursion Q (map f xs)
 all_map P Q f [] h a = tt
 all_map P Q f (x ∷ xs) h a = (h x a.0, all_map P Q f xs h a.1)
 
-pub all_weak : {X : Type 0} (P Q : X → Type 0) (xs : List X) → ((x : X) → P x → Q x) → All P xs → All Q xs
+pub all_weak : {X : Type 0} (P Q : X → Type 0) (xs : List X) → ((x : X) → P x → Q x) → AllByRecursion P xs → AllByRecursion Q xs
 all_weak P Q [] h a = tt
 all_weak P Q (x ∷ xs) h a = (h x a.0, all_weak P Q xs h a.1)
 
-pub all_same : {X : Type 0} (P : X → Type 0) (x : X) (n : ℕ) → P x → All P (replicate n x)
+pub all_same : {X : Type 0} (P : X → Type 0) (x : X) (n : ℕ) → P x → AllByRecursion P (replicate n x)
 all_same P x zero h = tt
 all_same P x (suc n) h = (h, all_same P x n h)
 
 -- what holds of everything holds of each
-pub all_from_each : {X : Type 0} (P : X → Type 0) → ((x : X) → P x) → (xs : List X) → All P xs
+pub all_from_each : {X : Type 0} (P : X → Type 0) → ((x : X) → P x) → (xs : List X) → AllByRecursion P xs
 all_from_each P h [] = tt
 all_from_each P h (x ∷ xs) = (h x, all_from_each P h xs)
 
@@ -159,7 +159,7 @@ passed (b ∷ bs) (suc (suc i)) e = passed bs (suc i) (and_parts b (all_of bs) e
 
 -- the one that a test finds: whatever other test it passes finds one too
 pub any_find :
-    {X : Type 0} (P : X → Type 0) (q : X → Bool) (xs : List X) → All P xs → any_of q xs ≡ true
+    {X : Type 0} (P : X → Type 0) (q : X → Bool) (xs : List X) → AllByRecursion P xs → any_of q xs ≡ true
     → (x : X) × (q x ≡ true) × P x × ((p : X → Bool) → p x ≡ true → any_of p xs ≡ true)
 any_find P q [] a e = mixed _ (sym e)
 any_find P q (x ∷ xs) a e = go (q x) refl e (any_find P q xs a.1)

@@ -1,5 +1,7 @@
 //! The venue's vocabulary: numbers in their ranges, words with few values, refusals, what is known of a series, what rests and waits, and the calls of a gate.
 
+#![tactic(auto)]
+
 mod bounded;
 mod entries;
 mod events;

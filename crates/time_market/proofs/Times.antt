@@ -1,16 +1,14 @@
 -- A strike by price, then time: what each answer shows.
-use Rattle.std.proofs.Common.{◌≡◌, ℕ, ◌+◌, ◌<◌, ◌≤◌, min, Bool, true, false, cond, not, List, [], length, get_or, Some, None, Ok, Err, Option, Result, sym, refl, ap, ◌∙◌, subst, ⊎_elim, arith}
-use Rattle.std.specs.Option.{option_map}
-use Rattle.std.proofs.lemmas.Bool.{cases_Bool, cond-true, cond-false, not-true, not-false, cond_both}
+use Rattle.std.proofs.Common.{◌≡◌, ℕ, ◌<◌, ◌≤◌, min, true, false, List, [], length, get_or, Some, None, Ok, Err, Option, Result, sym, refl, ap, ◌∙◌, subst, arith}
+use Rattle.std.proofs.lemmas.Bool.{cond-true, cond-false, cond_both}
 use Rattle.terms.specs.declared.events.Trade.{Trade}
 use Rattle.terms.specs.declared.refusal.Refusal.{Refusal}
 use Rattle.terms.specs.declared.refusal.Refusal.TheVariants.{SlipsFull}
 use Rattle.market.specs.Book.{Entry, Book}
 use Rattle.market.specs.Market.{slips_full, Struck}
-use Rattle.tables.specs.Cross.{Pair, Crossing, pair_in, lowest, before, trade_of, Meet, Fair}
-use Rattle.tables.specs.Held.{Apart}
-use Rattle.tables.proofs.Crossings.{Paired, pair_parts, pair_meets, Lowest, lowest_is, nothing_crosses, no_pair, crosses_at, buy_leads, sell_leads}
-use Rattle.time_market.specs.Time.{older_price, trade_in, answer_at, time_answer, Orderly, ByPriceAndTime}
+use Rattle.tables.specs.Cross.{Pair, pair_in, lowest, before, trade_of, Fair}
+use Rattle.tables.proofs.Crossings.{Paired, pair_parts, lowest_is, nothing_crosses, no_pair, crosses_at, buy_leads, sell_leads}
+use Rattle.time_market.specs.Time.{older_price, trade_in, answer_at, time_answer, Orderly}
 
 -- ---- nothing to trade
 

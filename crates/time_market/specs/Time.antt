@@ -1,5 +1,5 @@
 -- What a strike by price, then time, answers exactly, and the laws that a trade keeps to. Assumes nothing.
-use Rattle.std.specs.Prelude.{◌≡◌, ℕ, ◌+◌, ◌<◌, ◌≤◌, min, Bool, true, false, cond, List, [], length, Some, None, Ok, Err, filter, Option, Result, slice_index_or}
+use Rattle.std.specs.Prelude.{◌≡◌, ℕ, ◌<◌, ◌≤◌, min, Bool, false, cond, List, [], length, Some, None, Ok, Err, filter, Option, Result, slice_index_or}
 use Rattle.terms.specs.declared.events.Trade.{Trade}
 use Rattle.terms.specs.declared.refusal.Refusal.{Refusal}
 use Rattle.terms.specs.declared.refusal.Refusal.TheVariants.{SlipsFull}

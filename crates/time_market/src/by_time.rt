@@ -1,13 +1,13 @@
 //! The market by price, then time, as a market.
 
 ghost use Rattle.std.specs.Prelude.{◌≡◌, ◌-◌, length};
-ghost use Rattle.market.specs.Book.{empty as emptyBook};
+ghost use Rattle.market.specs.Book.{empty as empty_book};
 ghost use Rattle.market.specs.Market.{Struck};
 ghost use Rattle.tables.specs.Cross.{Even};
 ghost use Rattle.tables.specs.Held.{book_of, LongEnough};
 ghost use Rattle.time_market.specs.Time.{time_answer, Orderly};
 
-use crate::market::TimeMarket;
+use crate::state::TimeMarket;
 use crate::strikes::strike_by_time;
 use chains::Slot;
 use market::Market;
@@ -18,7 +18,7 @@ impl<'a> TimeMarket<'a> {
     /// An empty market over slots that are long enough, which `tables::long_enough` tells. The first slot of each is not used.
     pub fn new(entries: &'a mut [Slot<Entry>], slips: &'a mut [Slot<Slip>]) -> TimeMarket<'a>
         requires { LongEnough (length entries.old) (length slips.old) }
-        ensures { book_of result.tables ≡ emptyBook (length slips.old - 1) }
+        ensures { book_of result.tables ≡ empty_book (length slips.old - 1) }
     {
         TimeMarket {
             tables: Tables::new(entries, slips),

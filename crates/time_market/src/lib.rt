@@ -1,7 +1,9 @@
 //! A market by price, then time: the best buy and the best sell trade the smaller of their contracts, at the older's price.
 
+#![tactic(auto)]
+
 mod by_time;
-mod market;
+mod state;
 mod strikes;
 
-pub use market::TimeMarket;
+pub use state::TimeMarket;

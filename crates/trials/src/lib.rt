@@ -1,4 +1,6 @@
 //! Tests of what people would try first.
 
+#![tactic(auto)]
+
 #[cfg(test)]
 mod lines;

@@ -1,7 +1,7 @@
 -- The products fit, and the quotient is the share.
-use mathlib.Core.Path.{◌≡◌, refl, sym, ap, ◌∙◌}
-use Prim.Native.Nat.{ℕ, ◌*◌, ◌+◌, ◌≤◌, ◌/◌}
-use native.Mathlib.Nat.{mul-le-mul, div-zero}
+use mathlib.Core.Path.{refl, sym}
+use Prim.Native.Nat.{ℕ, ◌*◌, ◌≤◌}
+use native.Mathlib.Nat.{mul-le-mul}
 use native.Mathlib.Omega.{arith}
 use Rattle.shares.specs.Shares.{share}
 use Rattle.shares.proofs.Laws.{share_none}
@@ -17,11 +17,11 @@ product a b t h k m =
 pub returns-then-total-eq0 : goal.returns-then-total-eq0
 returns-then-total-eq0 c = sym (share_none _ _ _ c.if-total-eq0.true)
 
-pub overflow-mul-result-2 : goal.overflow-mul-result-2
-overflow-mul-result-2 c = omega (arith, product _ _ _ c.requires.left c.requires.contracts c.requires.total)
+pub overflow_mul-result-2 : goal.overflow_mul-result-2
+overflow_mul-result-2 c = omega (arith, product _ _ _ c.requires.left c.requires.contracts c.requires.total)
 
-pub overflow-add-result : goal.overflow-add-result
-overflow-add-result c = omega (arith, product _ _ _ c.requires.left c.requires.contracts c.requires.total)
+pub overflow_add-result : goal.overflow_add-result
+overflow_add-result c = omega (arith, product _ _ _ c.requires.left c.requires.contracts c.requires.total)
 
 pub returns : goal.returns
 unfolding share

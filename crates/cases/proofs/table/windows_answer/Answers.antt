@@ -11,6 +11,6 @@ returns c =
     let first = told c.args.first limit in
     let second = told c.args.second first in
     let s = c.tell.ensures.on [] (c.new-rates.ensures.time, c.new-rates.ensures.firms) in
-    let t = c.tell-burst-2.ensures first (c.tell-burst.ensures limit s) in
+    let t = c.tell_burst-2.ensures first (c.tell_burst.ensures limit s) in
     let ns : List Notice = Ticked c.args.time ∷ second in
-    c.tell-3.ensures.cause ns (c.tell-2.ensures.on second t) ∙ ap (λ (e : Notice). cause_at (e ∷ ns)) c.event-of.ensures
+    c.tell-3.ensures.cause ns (c.tell-2.ensures.on second t) ∙ ap (λ (e : Notice). cause_at (e ∷ ns)) c.event_of.ensures

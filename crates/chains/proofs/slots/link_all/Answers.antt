@@ -12,10 +12,10 @@ loop-i-init g c = (refl, refl, omega arith, refl)
 pub loop-i-preserved : goal.loop-i-preserved
 loop-i-preserved g c =
     let lt : c.loop-i.i < length (nexts c.loop-i.table) = rw length-map (omega arith) in (
-      down_next (nexts c.loop-i.table) _ c.loop-i.i c.loop-i.first (omega arith) lt c.loop-i.invariant.1 c.set-next.ensures.nexts c.loop-i.invariant.0,
+      down_next (nexts c.loop-i.table) _ c.loop-i.i c.loop-i.first (omega arith) lt c.loop-i.invariant.1 c.set_next.ensures.nexts c.loop-i.invariant.0,
       omega arith,
       omega arith,
-      c.set-next.ensures.items ∙ c.loop-i.invariant.3,
+      c.set_next.ensures.items ∙ c.loop-i.invariant.3,
     )
 
 pub returns : goal.returns

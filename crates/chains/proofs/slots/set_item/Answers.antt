@@ -1,7 +1,7 @@
 -- An item is written, and every next index stays.
 use Rattle.std.proofs.Common.{set, sym, ap, ◌∙◌}
 use Rattle.std.proofs.lemmas.List.{map-set, get_or-map, set-get_or}
-use Rattle.chains.specs.Slots.{nexts, items}
+use Rattle.chains.specs.Slots.{nexts}
 use Rattle.chains.proofs.slots.set_item.Goals as goal
 
 pub returns : goal.returns

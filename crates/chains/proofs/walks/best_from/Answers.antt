@@ -25,7 +25,7 @@ loop-here-preserved-then-meets g c =
     let p = g.P.Test.meets c.args.test.now in
     let b = g.O.Order.better c.args.order.now in (
       s.ahead,
-      best_yes b p c.loop-here.best _ _ _ (sym c.meets.ensures ∙ c.if-meets.true) c.better-of-best.ensures
+      best_yes b p c.loop-here.best _ _ _ (sym c.meets.ensures ∙ c.if-meets.true) c.better_of-best.ensures
           ∙ ap (λ v. fold (preferred b) c.loop-here.best (filter p v)) (sym s.holds) ∙ c.loop-here.invariant.1,
     )
 

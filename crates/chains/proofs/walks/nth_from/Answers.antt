@@ -1,5 +1,5 @@
 -- An item that meets the test is one less to pass, or the one that is asked for.
-use Rattle.std.proofs.Common.{◌≡◌, ◌-◌, [], ◌∷◌, drop, filter, sym, refl, ap, ◌∙◌, arith}
+use Rattle.std.proofs.Common.{drop, filter, sym, refl, ap, ◌∙◌, arith}
 use Rattle.std.proofs.lemmas.List.{length-map}
 use Rattle.chains.specs.Slots.{nexts, items}
 use Rattle.chains.specs.Chain.{items_from}

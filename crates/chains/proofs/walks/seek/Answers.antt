@@ -5,7 +5,6 @@ use Rattle.std.proofs.lemmas.List.{length-map}
 use Rattle.chains.specs.Slots.{items}
 use Rattle.chains.proofs.Link.{onward}
 use Rattle.chains.proofs.Walk.{step, passed_none, passed_more}
-use Rattle.chains.proofs.walks.seek.Given as given
 use Rattle.chains.proofs.walks.seek.Goals as goal
 
 pub loop-here-init : goal.loop-here-init

@@ -25,8 +25,8 @@ loop-here-preserved-then-meets g c =
     let w = g.W.Weight.weight c.args.weight.now in
     let p = g.P.Test.meets c.args.test.now in (
       s.ahead,
-      c.saturating-add-sum.type-inv,
-      sum_yes w p c.loop-here.sum _ _ _ (sym c.meets.ensures ∙ c.if-meets.true) (c.saturating-add-sum.ensures ∙ ap (λ v. saturated (c.loop-here.sum + v)) (c.from.ensures ∙ c.weight.ensures))
+      c.saturating_add-sum.type_inv,
+      sum_yes w p c.loop-here.sum _ _ _ (sym c.meets.ensures ∙ c.if-meets.true) (c.saturating_add-sum.ensures ∙ ap (λ v. saturated (c.loop-here.sum + v)) (c.from.ensures ∙ c.weight.ensures))
           ∙ ap (λ v. saturated (c.loop-here.sum + sum_by w (filter p v))) (sym s.holds) ∙ c.loop-here.invariant.2,
     )
 

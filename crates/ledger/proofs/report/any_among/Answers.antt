@@ -1,5 +1,5 @@
 -- One that is listed ends the search. Assumes nothing.
-use Rattle.std.proofs.Common.{◌≡◌, ℕ, ◌+◌, ◌<◌, ◌≤◌, Bool, true, false, ◌||◌, List, [], ◌∷◌, length, get_or, drop, is_some, sym, refl, ap, ◌∙◌}
+use Rattle.std.proofs.Common.{◌≡◌, ℕ, ◌+◌, ◌<◌, ◌≤◌, Bool, true, false, ◌||◌, List, length, get_or, drop, is_some, sym, ap, ◌∙◌}
 use Rattle.std.proofs.lemmas.List.{at_drop_more, at_drop_all}
 use Rattle.terms.specs.Tables.{any_of}
 use Rattle.ledger.specs.declared.report.Standing.TheVariants.{Free}
@@ -16,13 +16,13 @@ module _ {X : Type 0} (p : X → Bool) (xs : List X) (i : ℕ) (d : X) (whole : 
   none : length xs ≤ i → false ≡ any_of p xs
   none h = sym (at_drop_all (any_of p) xs i h) ∙ whole
 
-pub returns-then-is-some : goal.returns-then-is-some
-returns-then-is-some c =
-    found (is_among c.args.listing) c.args.standings.now c.loop-standing.standing-index _ c.loop-standing.invariant c.loop-standing-test.true (c.if-is-some.ensures ∙ ap is_some c.entry-in.ensures)
+pub returns-then-is_some : goal.returns-then-is_some
+returns-then-is_some c =
+    found (is_among c.args.listing) c.args.standings.now c.loop-standing.standing-index _ c.loop-standing.invariant c.loop-standing-test.true (c.if-is_some.ensures ∙ ap is_some c.entry_in.ensures)
 
 pub loop-standing-preserved : goal.loop-standing-preserved
 loop-standing-preserved c =
-    passed (is_among c.args.listing) c.args.standings.now c.loop-standing.standing-index _ c.loop-standing.invariant c.loop-standing-test.true (c.if-is-some.ensures ∙ ap is_some c.entry-in.ensures)
+    passed (is_among c.args.listing) c.args.standings.now c.loop-standing.standing-index _ c.loop-standing.invariant c.loop-standing-test.true (c.if-is_some.ensures ∙ ap is_some c.entry_in.ensures)
 
 pub returns : goal.returns
 returns c =

@@ -1,5 +1,5 @@
 -- A turn writes one login, if it is listed. Assumes nothing.
-use Rattle.std.proofs.Common.{◌≡◌, ℕ, ◌+◌, ◌<◌, ◌≤◌, List, [], ◌∷◌, ◌++◌, length, get_or, drop, is_ok, Option, sym, ap, ◌∙◌, subst, append_assoc, append-nil}
+use Rattle.std.proofs.Common.{◌≡◌, ℕ, ◌+◌, ◌<◌, ◌≤◌, List, ◌++◌, length, get_or, drop, is_ok, Option, sym, ap, ◌∙◌, subst, append_assoc, append-nil}
 use Rattle.std.specs.Fmt.{HasWritten}
 use Rattle.std.proofs.Output.{has_written_append}
 use Rattle.std.proofs.lemmas.List.{at_drop_more, at_drop_all}
@@ -21,7 +21,7 @@ module _ (listing : Listing) (ss : List Standing) (i : ℕ) (so whole : List ℕ
 pub loop-i-preserved : goal.loop-i-preserved
 loop-i-preserved g c plain =
     let v = c.loop-i.invariant plain in
-    (v.0 ++ entry_text (c.loop-i.i + 1) c.entry-in-entry.result, has_written_append g.W.Write.write_str_gives _ _ _ _ _ v.1 (c.write.ensures.writes v.1.plain (ap is_ok c.in-ok-write.was)), one_written c.args.listing c.args.standings.now c.loop-i.i v.0 _ v.2 c.entry-in-entry.result c.loop-i-test.true c.entry-in-entry.ensures)
+    (v.0 ++ entry_text (c.loop-i.i + 1) c.entry_in-entry.result, has_written_append g.W.Write.write_str_gives _ _ _ _ _ v.1 (c.write.ensures.writes v.1.plain (ap is_ok c.in_ok-write.was)), one_written c.args.listing c.args.standings.now c.loop-i.i v.0 _ v.2 c.entry_in-entry.result c.loop-i-test.true c.entry_in-entry.ensures)
 
 pub returns : goal.returns
 returns g c plain ok =

@@ -7,7 +7,7 @@ use Rattle.lines.proofs.calls.read_call.Goals as goal
 pub returns : goal.returns
 returns c =
     record {
-      value = c.by-first-word.ensures;
-      told = line_told (words c.args.line.now) c.by-first-word.result c.by-first-word.ensures;
-      back = reads_back c.args.line.now c.by-first-word.result c.by-first-word.ensures;
+      value = c.by_first_word.ensures;
+      told = line_told (words c.args.line.now) c.by_first_word.result c.by_first_word.ensures;
+      back = reads_back c.args.line.now c.by_first_word.result c.by_first_word.ensures;
     }

@@ -1,7 +1,6 @@
 -- A turn writes a space and a word. Assumes nothing.
 use Rattle.std.proofs.Common.{◌≡◌, ℕ, List, ◌∷◌, ◌++◌, is_ok, sym, ap, ◌∙◌, append_assoc}
 use Rattle.std.proofs.Output.{has_written_append}
-use Rattle.script.specs.Words.{remaining}
 use Rattle.lines.specs.Spelling.{trailed}
 use Rattle.lines.proofs.echo.trail.Goals as goal
 
@@ -12,4 +11,4 @@ word_written so text word all rest whole t w e =
 pub loop-word-preserved : goal.loop-word-preserved
 loop-word-preserved g c plain =
     let i = c.loop-word.invariant plain in
-    (i.0 ++ (32 ∷ c.in-Ok.text.now), has_written_append g.W.Write.write_str_gives _ _ _ _ _ i.1 (c.write.ensures.writes i.1.plain (ap is_ok c.in-ok-write.was)), word_written i.0 _ _ _ _ _ c.in-Ok.ensures.cases.0 c.in-Some.ensures i.2)
+    (i.0 ++ (32 ∷ c.in-Ok.text.now), has_written_append g.W.Write.write_str_gives _ _ _ _ _ i.1 (c.write.ensures.writes i.1.plain (ap is_ok c.in_ok-write.was)), word_written i.0 _ _ _ _ _ c.in-Ok.ensures.cases.0 c.in-Some.ensures i.2)

@@ -1,5 +1,5 @@
 -- The name at a place. Assumes nothing.
-use Rattle.std.proofs.Common.{◌≡◌, ℕ, zero, suc, ◌<◌, ◌≤◌, List, [], ◌∷◌, length, get_or, codes, sym, refl, ap, ◌∙◌, arith, Bor}
+use Rattle.std.proofs.Common.{◌≡◌, ℕ, zero, suc, ◌<◌, ◌≤◌, List, [], ◌∷◌, length, get_or, codes, refl, ap, ◌∙◌, arith, Bor}
 use Rattle.lines.specs.Names.{texts, name_at}
 use Rattle.lines.proofs.names.field_name.Goals as goal
 
@@ -15,8 +15,8 @@ text_past (x ∷ xs) (suc k) d h = text_past xs k d (omega arith)
 
 pub returns-then-field-names : goal.returns-then-field-names
 returns-then-field-names c =
-    text_at c.field-names-names.result.now c.args.field _ (codes "a field") c.if-field-names.true ∙ ap (λ names. name_at names c.args.field) c.field-names-names.ensures
+    text_at c.field_names-names.result.now c.args.field _ (codes "a field") c.if-field-names.true ∙ ap (λ names. name_at names c.args.field) c.field_names-names.ensures
 
 pub returns : goal.returns
 returns c =
-    text_past c.field-names-names.result.now c.args.field (codes "a field") c.if-field-names.false ∙ ap (λ names. name_at names c.args.field) c.field-names-names.ensures
+    text_past c.field_names-names.result.now c.args.field (codes "a field") c.if-field-names.false ∙ ap (λ names. name_at names c.args.field) c.field_names-names.ensures

@@ -13,8 +13,8 @@ returns c =
     record {
       shown = same_either _ s.most;
       own =
-          c.put-at.ensures ∙ ap (put s.left c.acronym-of-acronym.result) (c.left-after.ensures ∙ ap (left_after n) c.read-at-left.ensures)
-          ∙ ap (λ (a : ℕ). put s.left a (left_after n (at s.most s.left a))) c.acronym-of-acronym.ensures
+          c.put_at.ensures ∙ ap (put s.left c.acronym_of-acronym.result) (c.left_after.ensures ∙ ap (left_after n) c.read_at-left.ensures)
+          ∙ ap (λ (a : ℕ). put s.left a (left_after n (at s.most s.left a))) c.acronym_of-acronym.ensures
           ∙ sym (told_at quota (record { ticked = λ t p q. refl; valued = λ v w p q. refl }) s.most s.left s.most n);
       trips = same_either _ no_cause;
     }

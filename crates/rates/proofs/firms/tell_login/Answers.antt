@@ -14,7 +14,7 @@ returns-in-Some c =
     let xs = c.args.logins.now in
     let t = c.args.time in
     let n = c.args.notice in
-    let is = sym c.login-of.ensures ∙ c.in-Some.ensures.0 in
+    let is = sym c.login_of.ensures ∙ c.in-Some.ensures.0 in
     let lt : c.in-Some.i < length xs = omega arith in
     record {
       cause = c.tell.ensures.cause ∙ ap (scope_cause t n) (seen_at scope_view xs new_scope (login_of n) c.in-Some.i _ is lt);
@@ -26,7 +26,7 @@ returns-in-None c =
     let xs = map scope_view c.args.logins.now in
     let t = c.args.time in
     let n = c.args.notice in
-    let none : 1 ≤ login_of n → length xs < login_of n = λ h. omega (arith, c.in-None.ensures (omega arith), c.login-of.ensures, length-map c.args.logins.now scope_view) in
+    let none : 1 ≤ login_of n → length xs < login_of n = λ h. omega (arith, c.in-None.ensures (omega arith), c.login_of.ensures, length-map c.args.logins.now scope_view) in
     record {
       cause = sym (new_cause (λ k. act k t n)) ∙ ap (scope_cause t n) (sym (at_past new_scope xs (login_of n) none));
       next = sym (put_past xs (login_of n) (scope_told t n (at new_scope xs (login_of n))) none) ∙ sym (logins_told t n xs);

@@ -12,14 +12,14 @@ pub loop-field-preserved : goal.loop-field-preserved
 loop-field-preserved g c =
     (length-set c.loop-field.numbers c.loop-field.field c.in-Some-number.n ∙ c.loop-field.invariant.0, c.loop-field.invariant.1 ∙ number_read g.row.N c.loop-field.field _ c.loop-field.numbers _ _ _ c.loop-field-test.true c.loop-field.invariant.0 c.in-Some.ensures c.in-Some-number.ensures.value)
 
-pub returns-in-default : goal.returns-in-default
-returns-in-default g c =
-    let missing = sym (c.loop-field.invariant.1 ∙ word_missing g.row.N c.loop-field.field _ _ c.loop-field-test.true c.in-default.ensures.0) in
+pub returns-in_default : goal.returns-in_default
+returns-in_default g c =
+    let missing = sym (c.loop-field.invariant.1 ∙ word_missing g.row.N c.loop-field.field _ _ c.loop-field-test.true c.in_default.ensures.0) in
     record { value = missing; numbered = numbered g.row.N _ _ missing; ended = tt }
 
-pub returns-in-default-number : goal.returns-in-default-number
-returns-in-default-number g c =
-    let no_number = sym (c.loop-field.invariant.1 ∙ word_no_number g.row.N c.loop-field.field _ _ _ _ c.loop-field-test.true c.in-Some.ensures c.in-default-number.ensures.value) in
+pub returns-in_default-number : goal.returns-in_default-number
+returns-in_default-number g c =
+    let no_number = sym (c.loop-field.invariant.1 ∙ word_no_number g.row.N c.loop-field.field _ _ _ _ c.loop-field-test.true c.in-Some.ensures c.in_default-number.ensures.value) in
     record { value = no_number; numbered = numbered g.row.N _ _ no_number; ended = tt }
 
 pub returns-in-None : goal.returns-in-None
@@ -27,7 +27,7 @@ returns-in-None g c =
     let all = sym (c.loop-field.invariant.1 ∙ all_read g.row.N c.loop-field.field _ c.loop-field.numbers c.loop-field-test.false c.loop-field.invariant.0 c.in-None.ensures.0) in
     record { value = all; numbered = numbered g.row.N _ _ all; ended = c.in-None.ensures.1 }
 
-pub returns-in-Some-next-word : goal.returns-in-Some-next-word
-returns-in-Some-next-word g c =
-    let extra = sym (c.loop-field.invariant.1 ∙ word_extra g.row.N c.loop-field.field _ _ _ _ (omega arith) c.in-Some-next-word.ensures) in
+pub returns-in-Some-next_word : goal.returns-in-Some-next_word
+returns-in-Some-next_word g c =
+    let extra = sym (c.loop-field.invariant.1 ∙ word_extra g.row.N c.loop-field.field _ _ _ _ (omega arith) c.in-Some-next_word.ensures) in
     record { value = extra; numbered = numbered g.row.N _ _ extra; ended = tt }

@@ -6,11 +6,11 @@ use Rattle.script.proofs.reader.blanks_end.Goals as goal
 
 pub loop-at-preserved : goal.loop-at-preserved
 loop-at-preserved c =
-    run_past blank c.args.line.now c.loop-at.at c.loop-at-test.true (sym c.if-is-blank.ensures) ∙ c.loop-at.invariant
+    run_past blank c.args.line.now c.loop-at.at c.loop-at-test.true (sym c.if-is_blank.ensures) ∙ c.loop-at.invariant
 
-pub returns-else-is-blank : goal.returns-else-is-blank
-returns-else-is-blank c =
-    sym (run_stops blank c.args.line.now c.loop-at.at c.loop-at-test.true (sym c.if-is-blank.ensures)) ∙ c.loop-at.invariant
+pub returns-else-is_blank : goal.returns-else-is_blank
+returns-else-is_blank c =
+    sym (run_stops blank c.args.line.now c.loop-at.at c.loop-at-test.true (sym c.if-is_blank.ensures)) ∙ c.loop-at.invariant
 
 pub returns-after-loop-at : goal.returns-after-loop-at
 returns-after-loop-at c = sym (run_at_end blank c.args.line.now c.loop-at.at c.loop-at-test.false) ∙ c.loop-at.invariant

@@ -4,8 +4,7 @@ use Rattle.terms.specs.Kinds.{side_number}
 use Rattle.market.specs.Seen.{seen}
 use Rattle.tables.specs.Held.{resting_of}
 use Rattle.shares.specs.Shares.{share}
-use Rattle.size_market.specs.Going.{Going}
-use Rattle.size_market.proofs.Passing.{moved, Ahead, first_ahead, moved_on, found_ahead, no_share}
+use Rattle.size_market.proofs.Passing.{moved, first_ahead, moved_on, found_ahead, no_share}
 use Rattle.size_market.proofs.strikes.next_due.Goals as goal
 
 pub loop-maker-preserved : goal.loop-maker-preserved
@@ -14,9 +13,9 @@ loop-maker-preserved c =
     let r = moved c.args.round c.loop-maker.passed c.loop-maker.rest in
     let m = seen c.in-Some.maker in
     let g = c.loop-maker.invariant.0 in
-    let o = found_ahead ess r (side_number c.other-side-side.result) m c.other-side-side.ensures c.in-Some.ensures in
+    let o = found_ahead ess r (side_number c.other_side-side.result) m c.other_side-side.ensures c.in-Some.ensures in
     let n : c.from-contracts.result ≡ m.contracts = c.from-contracts.ensures ∙ c.number.ensures in
     let s : c.share.result ≡ share r.left m.contracts r.rest = c.share.ensures ∙ ap (λ v. share r.left v r.rest) n in
     let a = first_ahead ess r m g o in
-    let z = no_share c.share.result m.contracts c.in-default-from-number.ensures.reads.1 (omega (arith, s, a.within)) c.in-Some.maker.contracts.high in
+    let z = no_share c.share.result m.contracts c.in_default-from_number.ensures.reads.1 (omega (arith, s, a.within)) c.in-Some.maker.contracts.high in
     moved_on ess c.args.round c.loop-maker.passed c.loop-maker.rest c.from-contracts.result m c.in-Some.maker.contracts.low c.loop-maker.invariant o (sym s ∙ z) n

@@ -6,8 +6,8 @@ use Rattle.chains.proofs.Whole.{list_at, list_short, chained}
 use Rattle.chains.proofs.Questions.{sum_ones, kept_short}
 use Rattle.chains.proofs.table.Chains.count_of.Goals as goal
 
-pub sum-from-requires : goal.sum-from-requires
-sum-from-requires g c = chained c.args.self.now c.args.k (sound c.args.self.now c.requires.1) c.requires.0
+pub sum_from-requires : goal.sum_from-requires
+sum_from-requires g c = chained c.args.self.now c.args.k (sound c.args.self.now c.requires.1) c.requires.0
 
 pub returns : goal.returns
 returns g c =
@@ -16,4 +16,4 @@ returns g c =
     let p = g.P.Test.meets c.args.test.now in
     let xs = get_or (lists s) c.args.k [] in
     let e = ap (λ v. sum_by (λ _. 1) (filter p v)) (list_at s c.args.k r c.requires.0) in
-    omega (arith, c.sum-from.ensures, e, sum_ones (filter p xs), kept_short p xs, list_short s c.args.k r c.requires.0)
+    omega (arith, c.sum_from.ensures, e, sum_ones (filter p xs), kept_short p xs, list_short s c.args.k r c.requires.0)

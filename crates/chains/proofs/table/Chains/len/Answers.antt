@@ -5,9 +5,9 @@ use Rattle.chains.proofs.Kept.{sound}
 use Rattle.chains.proofs.Whole.{room_left}
 use Rattle.chains.proofs.table.Chains.len.Goals as goal
 
-pub overflow-sub-result : goal.overflow-sub-result
+pub overflow_sub-result : goal.overflow_sub-result
 unfolding places
-overflow-sub-result g c = omega (arith, room_left c.args.self.now (sound c.args.self.now c.requires))
+overflow_sub-result g c = omega (arith, room_left c.args.self.now (sound c.args.self.now c.requires))
 
 pub returns : goal.returns
 unfolding places

@@ -8,6 +8,6 @@ pub returns : goal.returns
 unfolding places
 returns g c =
     let m = length c.args.table.now - 1 in
-    let e : m ≡ length c.link-all-free.new.table - 1 = omega arith in
-    let f = fresh {N = g.row.N} (record { table = _; heads = replicate g.row.N 0; tails = replicate g.row.N 0; free = c.link-all-free.result; room = c.saturating-sub-room.result }) m refl refl c.link-all-free.ensures.linked e c.saturating-sub-room.ensures in
+    let e : m ≡ length c.link_all-free.new.table - 1 = omega arith in
+    let f = fresh {N = g.row.N} (record { table = _; heads = replicate g.row.N 0; tails = replicate g.row.N 0; free = c.link_all-free.result; room = c.saturating_sub-room.result }) m refl refl c.link_all-free.ensures.linked e c.saturating_sub-room.ensures in
     record { kept = ∣ f.sound ∣₁; empty = f.empty; places = omega arith }

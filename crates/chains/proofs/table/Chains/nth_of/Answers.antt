@@ -5,10 +5,10 @@ use Rattle.chains.proofs.Kept.{sound}
 use Rattle.chains.proofs.Whole.{list_at, chained}
 use Rattle.chains.proofs.table.Chains.nth_of.Goals as goal
 
-pub nth-from-requires : goal.nth-from-requires
-nth-from-requires g c = chained c.args.self.now c.args.k (sound c.args.self.now c.requires.1) c.requires.0
+pub nth_from-requires : goal.nth_from-requires
+nth_from-requires g c = chained c.args.self.now c.args.k (sound c.args.self.now c.requires.1) c.requires.0
 
 pub returns : goal.returns
 returns g c =
-    c.nth-from.ensures
+    c.nth_from.ensures
     ∙ ap (λ v. oldest (drop c.args.n (filter (g.P.Test.meets c.args.test.now) v))) (sym (list_at c.args.self.now c.args.k (sound c.args.self.now c.requires.1) c.requires.0))

@@ -17,17 +17,17 @@ returns-then-n-eq0 g c =
 pub slot-requires : goal.slot-requires
 slot-requires g c = let h = free_below c.args.self.now (sound c.args.self.now c.requires.1) (omega arith) in omega arith
 
-pub overflow-sub-self : goal.overflow-sub-self
-overflow-sub-self g c = room_some c.args.self.now (sound c.args.self.now c.requires.1) (omega arith)
+pub overflow_sub-self : goal.overflow_sub-self
+overflow_sub-self g c = room_some c.args.self.now (sound c.args.self.now c.requires.1) (omega arith)
 
-pub set-item-requires : goal.set-item-requires
-set-item-requires g c = free_below c.args.self.now (sound c.args.self.now c.requires.1) (omega arith)
+pub set_item-requires : goal.set_item-requires
+set_item-requires g c = free_below c.args.self.now (sound c.args.self.now c.requires.1) (omega arith)
 
-pub set-next-requires : goal.set-next-requires
-set-next-requires g c = let h = free_below c.args.self.now (sound c.args.self.now c.requires.1) (omega arith) in search rules
+pub set_next-requires : goal.set_next-requires
+set_next-requires g c = let h = free_below c.args.self.now (sound c.args.self.now c.requires.1) (omega arith) in search rules
 
-pub set-next-requires-else-last-eq0 : goal.set-next-requires-else-last-eq0
-set-next-requires-else-last-eq0 g c = let h = tail_below c.args.self.now c.args.k (sound c.args.self.now c.requires.1) (omega arith) in search rules
+pub set_next-requires-else-last-eq0 : goal.set_next-requires-else-last-eq0
+set_next-requires-else-last-eq0 g c = let h = tail_below c.args.self.now c.args.k (sound c.args.self.now c.requires.1) (omega arith) in search rules
 
 pub returns : goal.returns
 unfolding places
@@ -38,8 +38,8 @@ returns g c =
     let S = c.if-last-eq0.self in
     let r = sound s c.requires.1 in
     let pos : 0 < n = omega arith in
-    let written = c.set-next.ensures.nexts ∙ ap (λ v. set v n 0) c.set-item.ensures.nexts in
-    let holding = c.set-next.ensures.items ∙ c.set-item.ensures.items in
+    let written = c.set_next.ensures.nexts ∙ ap (λ v. set v n 0) c.set_item.ensures.nexts in
+    let holding = c.set_next.ensures.items ∙ c.set_item.ensures.items in
     let d : Pushed {N = g.row.N} s (record { table = S.table; heads = S.heads; tails = set S.tails k n; free = S.free; room = S.room }) k c.args.x =
     elim c.if-last-eq0.branch [
       | then-last-eq0 w ↦ push s _ k c.args.x r pos c.requires.0
@@ -48,15 +48,15 @@ returns g c =
           (ap (λ v. items v.table.now) w.self-is ∙ holding) (ap (λ v. v.free) w.self-is ∙ c.slot.ensures.next) (ap (λ v. set v.tails k n) w.self-is) (ap (λ v. v.room) w.self-is)
       | else-last-eq0 w ↦ push s _ k c.args.x r pos c.requires.0
           (λ z. absurd (w.if-last-eq0.false z))
-          (λ _. (ap (λ v. nexts v.table.now) w.self-is ∙ w.set-next-else-last-eq0.ensures.nexts ∙ ap (λ v. set v (get_or s.tails k 0) n) written, ap (λ v. v.heads) w.self-is))
-          (ap (λ v. items v.table.now) w.self-is ∙ w.set-next-else-last-eq0.ensures.items ∙ holding) (ap (λ v. v.free) w.self-is ∙ c.slot.ensures.next) (ap (λ v. set v.tails k n) w.self-is) (ap (λ v. v.room) w.self-is)
+          (λ _. (ap (λ v. nexts v.table.now) w.self-is ∙ w.set_next-else-last-eq0.ensures.nexts ∙ ap (λ v. set v (get_or s.tails k 0) n) written, ap (λ v. v.heads) w.self-is))
+          (ap (λ v. items v.table.now) w.self-is ∙ w.set_next-else-last-eq0.ensures.items ∙ holding) (ap (λ v. v.free) w.self-is ∙ c.slot.ensures.next) (ap (λ v. set v.tails k n) w.self-is) (ap (λ v. v.room) w.self-is)
     ] in
     record {
       kept = ∣ d.sound ∣₁;
       room = sym (lt-ltb _ _ (omega (arith, room_left s r, room_some s r pos)));
       pushed = d.holds;
       places = elim c.if-last-eq0.branch [
-        | then-last-eq0 w ↦ ap (λ v. length v.table.now - 1) w.self-is ∙ ap (λ v. v - 1) (c.set-next.auto.table ∙ c.set-item.auto.table)
-        | else-last-eq0 w ↦ ap (λ v. length v.table.now - 1) w.self-is ∙ ap (λ v. v - 1) (w.set-next-else-last-eq0.auto.table ∙ c.set-next.auto.table ∙ c.set-item.auto.table)
+        | then-last-eq0 w ↦ ap (λ v. length v.table.now - 1) w.self-is ∙ ap (λ v. v - 1) (c.set_next.auto.table ∙ c.set_item.auto.table)
+        | else-last-eq0 w ↦ ap (λ v. length v.table.now - 1) w.self-is ∙ ap (λ v. v - 1) (w.set_next-else-last-eq0.auto.table ∙ c.set_next.auto.table ∙ c.set_item.auto.table)
       ];
     }

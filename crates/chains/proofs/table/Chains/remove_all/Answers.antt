@@ -22,7 +22,7 @@ pub loop-here-preserved-then-meets : goal.loop-here-preserved-then-meets
 loop-here-preserved-then-meets g c =
     let i = c.loop-here.invariant in
     cleared_yes _ _ _ _ _ _ _ _ _ _ _ _ i (omega arith) c.slot-slot.ensures.item c.slot-slot.ensures.next (sym c.meets.ensures ∙ c.if-meets.true)
-    (c.saturating-add-sum.ensures ∙ ap (λ v. saturated (c.loop-here.sum + v)) (c.from.ensures ∙ c.weight.ensures))
+    (c.saturating_add-sum.ensures ∙ ap (λ v. saturated (c.loop-here.sum + v)) (c.from.ensures ∙ c.weight.ensures))
     c.unlink.ensures.kept c.unlink.ensures.places (c.unlink.ensures.unlinked i.passed i.walked)
 
 pub loop-here-smaller : goal.loop-here-smaller

@@ -1,5 +1,5 @@
 -- Nothing was found and nothing changes, or what was found is taken off.
-use Rattle.std.proofs.Common.{◌-◌, ◌<◌, [], set, sym, refl, ap, ◌∙◌, arith}
+use Rattle.std.proofs.Common.{◌<◌, [], set, sym, refl, ap, ◌∙◌, arith}
 use Rattle.chains.specs.Lists.{lists}
 use Rattle.chains.proofs.Kept.{sound}
 use Rattle.chains.proofs.Whole.{here_below}

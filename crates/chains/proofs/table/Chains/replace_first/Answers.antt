@@ -18,8 +18,8 @@ returns-then-here-eq0 g c =
 pub slot-item-requires : goal.slot-item-requires
 slot-item-requires g c = let h = here_below c.args.self.now _ _ _ _ c.find-here.ensures.sought.walked (omega arith) in omega arith
 
-pub set-item-requires : goal.set-item-requires
-set-item-requires g c = here_below c.args.self.now _ _ _ _ c.find-here.ensures.sought.walked (omega arith)
+pub set_item-requires : goal.set_item-requires
+set_item-requires g c = here_below c.args.self.now _ _ _ _ c.find-here.ensures.sought.walked (omega arith)
 
 pub returns : goal.returns
 unfolding places
@@ -30,12 +30,12 @@ returns g c =
     let r = sound s c.requires.1 in
     let m = present _ s _ _ _ _ r c.requires.0 f pos c.slot-item.ensures.item in
     let d = put s (record { table = _; heads = s.heads; tails = s.tails; free = s.free; room = s.room }) c.args.k _ _ c.args.x f.sought.passed r f.sought.walked pos c.requires.0
-    c.set-item.ensures.nexts c.set-item.ensures.items refl refl refl refl in
+    c.set_item.ensures.nexts c.set_item.ensures.items refl refl refl refl in
     let now = d.holds ∙ ap (λ v. set (lists s) c.args.k v) (sym (m.becomes (c.args.x ∷ []))) in
     record {
       kept = ∣ d.sound ∣₁;
       first = m.first;
       replaced = now;
       became = became_at _ (c.args.x ∷ []) s _ _ _ r c.requires.0 now m.first;
-      places = ap (λ v. v - 1) c.set-item.auto.table;
+      places = ap (λ v. v - 1) c.set_item.auto.table;
     }

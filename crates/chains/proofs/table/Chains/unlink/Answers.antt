@@ -1,12 +1,11 @@
 -- The places written are in the table, and the writes are those of an item less.
 use Rattle.std.proofs.Common.{◌-◌, List, set, refl, ap, ◌∙◌, arith}
-use Rattle.chains.specs.Slots.{nexts, items}
+use Rattle.chains.specs.Slots.{nexts}
 use Rattle.chains.specs.Lists.{places}
 use Rattle.chains.specs.Steps.{Walked}
 use Rattle.chains.proofs.Kept.{sound}
 use Rattle.chains.proofs.Whole.{here_below, prev_below, room_left}
 use Rattle.chains.proofs.Changes.{Taken, unlink}
-use Rattle.chains.proofs.table.Chains.unlink.Given as given
 use Rattle.chains.proofs.table.Chains.unlink.Goals as goal
 use Rattle.chains.proofs.table.Chains.unlink.Goals.{then-prev-eq0, else-prev-eq0, then-next-eq0, else-next-eq0}
 
@@ -16,12 +15,12 @@ slot-next-requires g c = let h = here_below c.args.self.now _ _ _ _ c.requires.1
 pub follow-requires : goal.follow-requires
 follow-requires g c = prev_below c.args.self.now _ _ _ _ (sound c.args.self.now c.requires.1.0) c.requires.0 c.requires.1.1.1.1
 
-pub set-next-requires : goal.set-next-requires
-set-next-requires g c = let h = here_below c.args.self.now _ _ _ _ c.requires.1.1.1.1 c.requires.1.1.0 in omega arith
+pub set_next-requires : goal.set_next-requires
+set_next-requires g c = let h = here_below c.args.self.now _ _ _ _ c.requires.1.1.1.1 c.requires.1.1.0 in omega arith
 
-pub overflow-add-self : goal.overflow-add-self
+pub overflow_add-self : goal.overflow_add-self
 unfolding places
-overflow-add-self g c =
+overflow_add-self g c =
     let s = c.args.self.now in
     let h = here_below s _ _ _ _ c.requires.1.1.1.1 c.requires.1.1.0 in
     omega (arith, room_left s (sound s c.requires.1.0))
@@ -41,9 +40,9 @@ returns g c =
     (λ h. (c.follow.ensures.nexts h ∙ ap (set (nexts tb) c.args.prev) nf, elim c.if-prev-eq0.branch [ then-prev-eq0 v ↦ absurd (omega (arith, h, v.if-prev-eq0.true)) | else-prev-eq0 v ↦ v.head-is ]))
     (λ z. elim c.if-next-eq0.branch [ then-next-eq0 v ↦ v.tail-is | else-next-eq0 v ↦ absurd (v.if-next-eq0.false (nf ∙ z)) ])
     (λ h. elim c.if-next-eq0.branch [ then-next-eq0 v ↦ absurd (omega (arith, h, nf, v.if-next-eq0.true)) | else-next-eq0 v ↦ v.tail-is ])
-    c.set-next.ensures.nexts (c.set-next.ensures.items ∙ c.follow.ensures.items) refl refl refl refl in
+    c.set_next.ensures.nexts (c.set_next.ensures.items ∙ c.follow.ensures.items) refl refl refl refl in
     record {
       kept = ∣ (d c.requires.1.1.1.0 c.requires.1.1.1.1).sound ∣₁;
       unlinked = λ xs w. (d xs w).unlinked;
-      places = ap (λ v. v - 1) (c.set-next.auto.table ∙ c.follow.auto.table);
+      places = ap (λ v. v - 1) (c.set_next.auto.table ∙ c.follow.auto.table);
     }

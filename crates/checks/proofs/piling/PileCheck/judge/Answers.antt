@@ -14,5 +14,5 @@ returns g c =
     let p = g.A.Check.public s.first in
     let q = g.B.Check.public s.rest in
     let e = at_pairs (g.A.Check.private s.first) (g.B.Check.private s.rest) k.acronym (m.fresh p) (n.fresh q) c.facts.ensures c.facts-2.ensures in
-    c.first-of.ensures ∙ ap (λ (x : ℕ). first_of x c.judge-2.result) c.judge.ensures ∙ ap (first_of (m.judged k p (at (m.fresh p) (g.A.Check.private s.first) k.acronym))) c.judge-2.ensures
+    c.first_of.ensures ∙ ap (λ (x : ℕ). first_of x c.judge-2.result) c.judge.ensures ∙ ap (first_of (m.judged k p (at (m.fresh p) (g.A.Check.private s.first) k.acronym))) c.judge-2.ensures
     ∙ sym (ap (λ (z : m.Priv × n.Priv). first_of (m.judged k p z.0) (n.judged k q z.1)) e)

@@ -21,6 +21,6 @@ returns g c =
     record {
       shown = ap (λ (x : m.Pub). (x, g.B.Check.public c.tell-rest.new.self)) c.tell-first.ensures.shown ∙ ap (λ (y : n.Pub). (told_public m e p, y)) c.tell-rest.ensures.shown ∙ sym (public_pairs m n e p q);
       own = ap (λ (x : List m.Priv). pairs x (g.B.Check.private c.tell-rest.new.self)) c.tell-first.ensures.own ∙ ap (pairs (told_each m 1 e p xs)) c.tell-rest.ensures.own ∙ sym (each_pairs m n e 1 p q xs ys);
-      trips = c.first-causes.ensures ∙ ap (λ (x : Causes). first_causes x c.tell-rest.result) c.tell-first.ensures.trips ∙ ap (first_causes (told_causes m e p (at (m.fresh p) xs (whose e)))) c.tell-rest.ensures.trips
+      trips = c.first_causes.ensures ∙ ap (λ (x : Causes). first_causes x c.tell-rest.result) c.tell-first.ensures.trips ∙ ap (first_causes (told_causes m e p (at (m.fresh p) xs (whose e)))) c.tell-rest.ensures.trips
           ∙ causes_pairs m n e p q _ _ ∙ sym (ap (λ (z : m.Priv × n.Priv). told_causes (piled m n) e (p, q) z) a);
     }

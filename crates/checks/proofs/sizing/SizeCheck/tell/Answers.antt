@@ -10,16 +10,16 @@ pub returns-in-Some : goal.returns-in-Some
 returns-in-Some c =
     record {
       shown = refl;
-      own = told_in_place size size_quiet tt c.args.self.now.limits _ c.args.notice c.acronym-of.result c.in-Some.a c.tell.new.self c.acronym-of.ensures c.in-Some.ensures.0 c.tell.ensures;
+      own = told_in_place size size_quiet tt c.args.self.now.limits _ c.args.notice c.acronym_of.result c.in-Some.a c.tell.new.self c.acronym_of.ensures c.in-Some.ensures.0 c.tell.ensures;
       trips = same_either _ no_cause;
     }
 
-pub returns-in-default : goal.returns-in-default
-returns-in-default c =
-    let w = c.acronym-of.result in
-    let none : 1 ≤ w → length c.args.self.now.limits < w = λ h. omega (arith, c.in-default.ensures h) in
+pub returns-in_default : goal.returns-in_default
+returns-in_default c =
+    let w = c.acronym_of.result in
+    let none : 1 ≤ w → length c.args.self.now.limits < w = λ h. omega (arith, c.in_default.ensures h) in
     record {
       shown = refl;
-      own = told_nowhere size size_quiet tt c.args.self.now.limits unlimited c.args.notice w c.acronym-of.ensures none;
+      own = told_nowhere size size_quiet tt c.args.self.now.limits unlimited c.args.notice w c.acronym_of.ensures none;
       trips = same_either _ no_cause;
     }

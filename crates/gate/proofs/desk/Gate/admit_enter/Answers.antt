@@ -4,7 +4,7 @@ use Rattle.history.specs.Fields.{good_ticket}
 use Rattle.gate.proofs.Stepping.{field_refused}
 use Rattle.gate.proofs.desk.Gate.admit_enter.Goals as goal
 
-pub returns-in-err-order : goal.returns-in-err-order
-returns-in-err-order g c =
-    let p = err_from_is_err_and c.from-residual.result c.from-residual.ensures.1 in
-    rw (p.1, p.2) (field_refused (good_ticket c.args.ticket.now) _ _ c.in-err-order.ensures)
+pub returns-in_err-order : goal.returns-in_err-order
+returns-in_err-order g c =
+    let p = err_from_is_err_and c.from_residual.result c.from_residual.ensures.1 in
+    rw (p.1, p.2) (field_refused (good_ticket c.args.ticket.now) _ _ c.in_err-order.ensures)

@@ -4,7 +4,7 @@ use Rattle.history.specs.Fields.{good_fill}
 use Rattle.gate.proofs.Stepping.{field_refused}
 use Rattle.gate.proofs.desk.Gate.admit_slip.Goals as goal
 
-pub returns-in-err-claim : goal.returns-in-err-claim
-returns-in-err-claim g c =
-    let p = err_from_is_err_and c.from-residual.result c.from-residual.ensures.1 in
-    rw (p.1, p.2) (field_refused (good_fill c.args.fill.now) _ _ c.in-err-claim.ensures)
+pub returns-in_err-claim : goal.returns-in_err-claim
+returns-in_err-claim g c =
+    let p = err_from_is_err_and c.from_residual.result c.from_residual.ensures.1 in
+    rw (p.1, p.2) (field_refused (good_fill c.args.fill.now) _ _ c.in_err-claim.ensures)

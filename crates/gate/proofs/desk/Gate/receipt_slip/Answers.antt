@@ -7,7 +7,7 @@ use Rattle.gate.proofs.desk.Gate.receipt_slip.Goals as goal
 pub returns : goal.returns
 returns g c =
     let s = state_of g.C.Check.meaning g.M.Market.book g.C.Check.public g.C.Check.private c.args.self.now in
-    let a = c.in-ok-login.ensures in
-    receipts s c.args.self.now.rows c.args.fill _ c.index.result c.none-wait-settled.result _ c.receipt.new.self
-    (g.M.Market.book c.drop-slip.new.self) refl c.all-rows.ensures a.0 a.1 c.index.ensures.place c.index.ensures.bound
-    c.drop-slip.ensures.1 c.none-wait-settled.ensures c.receipt.ensures
+    let a = c.in_ok-login.ensures in
+    receipts s c.args.self.now.rows c.args.fill _ c.index.result c.none_wait-settled.result _ c.receipt.new.self
+    (g.M.Market.book c.drop_slip.new.self) refl c.all_rows.ensures a.0 a.1 c.index.ensures.place c.index.ensures.bound
+    c.drop_slip.ensures.1 c.none_wait-settled.ensures c.receipt.ensures

@@ -5,4 +5,4 @@ use Rattle.gate.specs.Rows.{seen_row}
 use Rattle.gate.proofs.desk.Gate.row.Goals as goal
 
 pub returns : goal.returns
-returns g c = ap seen_row c.read-at.ensures ∙ sym (at_map seen_row _ c.args.self.now.rows c.args.login)
+returns g c = ap seen_row c.read_at.ensures ∙ sym (at_map seen_row _ c.args.self.now.rows c.args.login)

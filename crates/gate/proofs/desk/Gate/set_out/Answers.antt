@@ -8,5 +8,5 @@ pub returns : goal.returns
 returns g c =
     let place : c.args.login.value ≡ suc c.index.result = omega (arith, c.index.ensures.place) in
     let below : c.index.result < 24 = omega (arith, c.index.ensures.bound) in
-    row_changed _ c.args.self.now.rows refl c.args.login.value (with_out c.args.out) c.index.result _ c.set-out.new.self
-    c.all-rows.ensures place below c.set-out.ensures
+    row_changed _ c.args.self.now.rows refl c.args.login.value (with_out c.args.out) c.index.result _ c.set_out.new.self
+    c.all_rows.ensures place below c.set_out.ensures

@@ -9,6 +9,6 @@ pub returns-in-Ok-Some : goal.returns-in-Ok-Some
 returns-in-Ok-Some g c =
     let s = state_of g.C.Check.meaning g.M.Market.book g.C.Check.public g.C.Check.private c.args.self.now in
     let struck : Struck s.book (Ok (Some c.in-Ok-Some.trade)) (g.M.Market.book c.strike.new.self) = search rules in
-    strikes s _ _ _ c.in-Ok-Some.trade (g.M.Market.book c.strike.new.self) c.buy-side.result c.sell-side.result c.fill-buy.result c.fill-sell.result
-    struck refl c.buy-side.ensures c.sell-side.ensures c.fill-buy.ensures.effect c.fill-buy.ensures.after
+    strikes s _ _ _ c.in-Ok-Some.trade (g.M.Market.book c.strike.new.self) c.buy_side.result c.sell_side.result c.fill-buy.result c.fill-sell.result
+    struck refl c.buy_side.ensures c.sell_side.ensures c.fill-buy.ensures.effect c.fill-buy.ensures.after
     c.fill-sell.ensures.effect c.fill-sell.ensures.after

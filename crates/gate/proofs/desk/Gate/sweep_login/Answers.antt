@@ -4,10 +4,10 @@ use Rattle.gate.specs.Cuts.{cut_in}
 use Rattle.gate.proofs.Sweeping.{left_alone, swept_within}
 use Rattle.gate.proofs.desk.Gate.sweep_login.Goals as goal
 
-pub returns-in-default : goal.returns-in-default
-returns-in-default g c =
+pub returns-in_default : goal.returns-in_default
+returns-in_default g c =
     let s = state_of g.C.Check.meaning g.M.Market.book g.C.Check.public g.C.Check.private c.args.self.now in
-    let r = left_alone s (cut_in s c.args.cut) c.args.login c.in-default.ensures in
+    let r = left_alone s (cut_in s c.args.cut) c.args.login c.in_default.ensures in
     record { sum = r.sum; small = r.small; after = r.after }
 
 pub returns-in-Ok : goal.returns-in-Ok

@@ -18,10 +18,10 @@ returns-then-causes-eq0-2 g c =
 pub returns : goal.returns
 returns g c =
     let s = state_of g.C.Check.meaning g.M.Market.book g.C.Check.public g.C.Check.private c.args.self.now in
-    let len = length_map seen_row c.args.self.now.rows ∙ c.all-rows.ensures in
+    let len = length_map seen_row c.args.self.now.rows ∙ c.all_rows.ensures in
     record {
-      sum = tripped_sum s c.args.login c.sweep-all-cancelled.result c.args.causes len c.sweep-all-cancelled.ensures.sum;
+      sum = tripped_sum s c.args.login c.sweep_all-cancelled.result c.args.causes len c.sweep_all-cancelled.ensures.sum;
       after =
           tripped s _ _ _ c.args.login _ c.args.causes len (c.acronym-firm.ensures ∙ ap (λ (r : Row). r.acronym) c.row.ensures)
-          c.sweep-all-cancelled.ensures.after c.hold-scope.ensures c.hold-scope-2.ensures;
+          c.sweep_all-cancelled.ensures.after c.hold_scope.ensures c.hold_scope-2.ensures;
     }

@@ -7,4 +7,4 @@ use Rattle.ledger.proofs.accounts.Ledger.note.Goals as goal
 
 pub returns : goal.returns
 returns c h t =
-    noted h c.args.event.now c.args.self.now c.mark.new.self (c.mark.ensures ∙ ap (marked c.posting-of-posting.result.login c.posting-of-posting.result.acronym) (c.post-2.ensures ∙ ap (posted c.posting-of-posting.result.second) c.post.ensures) ∙ ap (λ (p : Posting). marked p.login p.acronym (posted p.second (posted p.first c.args.self.now))) c.posting-of-posting.ensures) t
+    noted h c.args.event.now c.args.self.now c.mark.new.self (c.mark.ensures ∙ ap (marked c.posting_of-posting.result.login c.posting_of-posting.result.acronym) (c.post-2.ensures ∙ ap (posted c.posting_of-posting.result.second) c.post.ensures) ∙ ap (λ (p : Posting). marked p.login p.acronym (posted p.second (posted p.first c.args.self.now))) c.posting_of-posting.ensures) t

@@ -6,9 +6,9 @@ use Rattle.ledger.specs.Sums.{nothing}
 use Rattle.ledger.proofs.Telling.{reported}
 use Rattle.ledger.proofs.accounts.Ledger.sums.Goals as goal
 
-pub returns-then-read-at : goal.returns-then-read-at
-returns-then-read-at c =
-    let read : Some c.read-at-then-read-at.result ≡ cond (at false c.args.self.now.opened c.args.acronym) (Some (at nothing c.args.self.now.sums c.args.acronym)) None =
-    ap Some c.read-at-then-read-at.ensures ∙ sym (cond-true (at false c.args.self.now.opened c.args.acronym) _ _ (sym c.if-read-at.ensures))
+pub returns-then-read_at : goal.returns-then-read_at
+returns-then-read_at c =
+    let read : Some c.read_at-then-read_at.result ≡ cond (at false c.args.self.now.opened c.args.acronym) (Some (at nothing c.args.self.now.sums c.args.acronym)) None =
+    ap Some c.read_at-then-read_at.ensures ∙ sym (cond-true (at false c.args.self.now.opened c.args.acronym) _ _ (sym c.if-read_at.ensures))
     in
     record { value = read; told = λ h t. reported h c.args.self.now c.args.acronym _ read t }

@@ -6,4 +6,4 @@ use Rattle.lines.proofs.names.FieldFaultDisplay.fmt.Goals as goal
 
 pub returns-in-Scope-clause-writes : goal.returns-in-Scope-clause-writes
 returns-in-Scope-clause-writes g c plain ok =
-    subst (λ bs. HasWritten g.W.Write.write_str_gives c.args.f.now bs c.write.new.self) (ap (λ w. codes "expected login or acronym after " ++ w) c.verb-word.ensures ∙ sym (ap field_message c.in-Scope.is)) (c.write.ensures.writes plain ok)
+    subst (λ bs. HasWritten g.W.Write.write_str_gives c.args.f.now bs c.write.new.self) (ap (λ w. codes "expected login or acronym after " ++ w) c.verb_word.ensures ∙ sym (ap field_message c.in-Scope.is)) (c.write.ensures.writes plain ok)

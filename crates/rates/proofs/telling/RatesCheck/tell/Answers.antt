@@ -17,12 +17,12 @@ returns-in-Some c =
     let p : ℕ = c.args.self.now.time in
     let n = c.args.notice in
     let firms : List FirmView = map firm_view rs in
-    let is : whose n ≡ suc c.in-Some.a = sym c.acronym-of.ensures ∙ c.in-Some.ensures.0 in
+    let is : whose n ≡ suc c.in-Some.a = sym c.acronym_of.ensures ∙ c.in-Some.ensures.0 in
     let lt : c.in-Some.a < length rs = omega arith in
     let trip : c.tell.result ≡ told_causes rates n p (at new_firm firms (whose n)) =
     c.tell.ensures.trips ∙ ap (firm_causes p n) (seen_at firm_view rs new_firm (whose n) c.in-Some.a _ is lt) ∙ causes_told n p (at new_firm firms (whose n)) in
     record {
-      shown = c.time-after-self.ensures ∙ time_told n p;
+      shown = c.time_after-self.ensures ∙ time_told n p;
       own = put_seen firm_view rs new_firm (whose n) c.in-Some.a _ is lt (firm_told p n) c.tell.new.self c.tell.ensures.next ∙ sym (told_at rates rates_quiet p firms new_firm n);
       trips = trip;
       defined = as_told c.tell.result n p firms trip;
@@ -34,13 +34,13 @@ returns-in-None c =
     let n = c.args.notice in
     let firms : List FirmView = map firm_view c.args.self.now.firms in
     let long : length firms ≡ 8 = length-map c.args.self.now.firms firm_view ∙ c.eight.ensures in
-    let w = c.acronym-of.result in
+    let w = c.acronym_of.result in
     let none : 1 ≤ w → length firms < w = λ h. omega (arith, c.in-None.ensures h, long) in
-    let nobody : 1 ≤ whose n → length firms < whose n = λ h. omega (arith, c.acronym-of.ensures, c.in-None.ensures (omega (arith, c.acronym-of.ensures)), long) in
+    let nobody : 1 ≤ whose n → length firms < whose n = λ h. omega (arith, c.acronym_of.ensures, c.in-None.ensures (omega (arith, c.acronym_of.ensures)), long) in
     let trip = new_firm_causes p n ∙ ap (firm_causes p n) (sym (at_past new_firm firms (whose n) nobody)) ∙ causes_told n p (at new_firm firms (whose n)) in
     record {
-      shown = c.time-after-self.ensures ∙ time_told n p;
-      own = told_nowhere rates rates_quiet p firms new_firm n w c.acronym-of.ensures none;
+      shown = c.time_after-self.ensures ∙ time_told n p;
+      own = told_nowhere rates rates_quiet p firms new_firm n w c.acronym_of.ensures none;
       trips = trip;
       defined = as_told _ n p firms trip;
     }

@@ -18,10 +18,10 @@ after c =
     let b = book_of m.tables in
     let e = seen c.args.entry in
     kept_so (rest_refusal b e) tt b (rested b c.args.series.value e) (book_of c.rest-rested.new.self) c.rest-rested.result m.round c.kept-self.result
-    (c.kept-self.ensures ∙ ap (λ v. cond v None m.round) c.is-ok.ensures.value) m.sound c.rest-rested.ensures.rested
+    (c.kept-self.ensures ∙ ap (λ v. cond v None m.round) c.is_ok.ensures.value) m.sound c.rest-rested.ensures.rested
 
-pub invariant-of-self : goal.invariant-of-self
-invariant-of-self c = (c.rest-rested.ensures.good, ((after c).0, tt))
+pub invariant_of-self : goal.invariant_of-self
+invariant_of-self c = record { good = c.rest-rested.ensures.good; sound = (after c).0 }
 
 pub returns : goal.returns
 returns c = record { rested = c.rest-rested.ensures.rested; round = (after (goal.at.returns c).After-kept-self).1 }

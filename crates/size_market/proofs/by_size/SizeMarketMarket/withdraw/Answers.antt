@@ -19,10 +19,10 @@ after c =
     let l = c.args.login.value in
     let n = c.args.number.value in
     kept_so (withdraw_refusal b l n) (totals (is_for l n) b.resting) b (taken_off (is_for l n) b) (book_of c.withdraw-withdrawn.new.self) c.withdraw-withdrawn.result m.round c.kept-self.result
-    (c.kept-self.ensures ∙ ap (λ v. cond v None m.round) c.is-ok.ensures.value) m.sound c.withdraw-withdrawn.ensures.withdrawn
+    (c.kept-self.ensures ∙ ap (λ v. cond v None m.round) c.is_ok.ensures.value) m.sound c.withdraw-withdrawn.ensures.withdrawn
 
-pub invariant-of-self : goal.invariant-of-self
-invariant-of-self c = (c.withdraw-withdrawn.ensures.good, ((after c).0, tt))
+pub invariant_of-self : goal.invariant_of-self
+invariant_of-self c = record { good = c.withdraw-withdrawn.ensures.good; sound = (after c).0 }
 
 pub returns : goal.returns
 returns c = record { withdrawn = c.withdraw-withdrawn.ensures.withdrawn; round = (after (goal.at.returns c).After-kept-self).1 }

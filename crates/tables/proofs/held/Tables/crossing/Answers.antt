@@ -1,5 +1,5 @@
 -- The walk stops at the first series that crosses.
-use Rattle.std.proofs.Common.{sym, refl, ap, ◌∙◌, arith}
+use Rattle.std.proofs.Common.{sym, ◌∙◌, arith}
 use Rattle.tables.specs.Held.{resting_of}
 use Rattle.tables.proofs.Meeting.{walk_on, walk_end}
 use Rattle.tables.proofs.held.Tables.crossing.Goals as goal

@@ -8,4 +8,4 @@ use Rattle.tables.proofs.held.Tables.maker.Goals as goal
 
 pub returns : goal.returns
 returns c =
-    nth_in (at_price (side_number c.args.side) c.args.price.value) (lists c.args.self.now.entries) c.args.series c.args.n _ (omega (arith, c.facts.ensures.count, c.requires.0)) c.nth-of.ensures
+    nth_in (at_price (side_number c.args.side) c.args.price.value) (lists c.args.self.now.entries) c.args.series c.args.n _ (omega (arith, c.facts.ensures.count, c.requires.0)) c.nth_of.ensures

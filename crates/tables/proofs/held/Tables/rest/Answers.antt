@@ -1,7 +1,7 @@
 -- In use, at 16, or one more.
-use Rattle.std.proofs.Common.{◌≡◌, ◌<◌, eqb, length, sym, refl, ◌∙◌, arith}
+use Rattle.std.proofs.Common.{eqb, refl, arith}
 use Rattle.chains.specs.Lists.{lists}
-use Rattle.market.specs.Book.{is_for, counts}
+use Rattle.market.specs.Book.{is_for}
 use Rattle.market.specs.Seen.{seen}
 use Rattle.tables.specs.Held.{book_of}
 use Rattle.tables.proofs.Listed.{counts_seen}
@@ -12,7 +12,7 @@ pub returns-then-used-gt0 : goal.returns-then-used-gt0
 returns-then-used-gt0 c =
     let x = c.args.entry in
     let n = counts_seen (is_for x.login.value x.number.value) (lists c.args.self.now.entries) in
-    record { good = c.requires; rested = in_use (book_of c.args.self.now) c.args.series.value (seen x) (omega (arith, n, c.count-of-used.ensures, c.if-used-gt0.true)) }
+    record { good = c.requires; rested = in_use (book_of c.args.self.now) c.args.series.value (seen x) (omega (arith, n, c.count_of-used.ensures, c.if-used-gt0.true)) }
 
 pub returns-then-resting-ge-ALLOTMENT : goal.returns-then-resting-ge-ALLOTMENT
 returns-then-resting-ge-ALLOTMENT c =
@@ -21,8 +21,8 @@ returns-then-resting-ge-ALLOTMENT c =
     let m = counts_seen (λ e. eqb e.login x.login.value) (lists c.args.self.now.entries) in
     record {
       good = c.requires;
-      rested = at_16 (book_of c.args.self.now) c.args.series.value (seen x) (omega (arith, n, c.count-of-used.ensures, c.if-used-gt0.false))
-          (omega (arith, m, c.count-of-resting.ensures, c.if-resting-ge-ALLOTMENT.true));
+      rested = at_16 (book_of c.args.self.now) c.args.series.value (seen x) (omega (arith, n, c.count_of-used.ensures, c.if-used-gt0.false))
+          (omega (arith, m, c.count_of-resting.ensures, c.if-resting-ge-ALLOTMENT.true));
     }
 
 pub returns : goal.returns
@@ -30,8 +30,8 @@ returns c =
     let x = c.args.entry in
     let n = counts_seen (is_for x.login.value x.number.value) (lists c.args.self.now.entries) in
     let m = counts_seen (λ e. eqb e.login x.login.value) (lists c.args.self.now.entries) in
-    let d : More c.args.self.now (record { entries = c.push-back.new.self; slips = c.args.self.now.slips }) c.args.series.value x =
-    one_more c.args.self.now _ c.index.result c.args.series.value x c.push-back.result c.requires c.index.ensures.place
-    (omega (arith, c.facts.ensures.count, c.index.ensures.bound)) (omega (arith, n, c.count-of-used.ensures, c.if-used-gt0.false))
-    (omega (arith, m, c.count-of-resting.ensures, c.if-resting-ge-ALLOTMENT.false)) c.push-back.ensures.kept c.push-back.ensures.room c.push-back.ensures.pushed c.push-back.ensures.places refl in
+    let d : More c.args.self.now (record { entries = c.push_back.new.self; slips = c.args.self.now.slips }) c.args.series.value x =
+    one_more c.args.self.now _ c.index.result c.args.series.value x c.push_back.result c.requires c.index.ensures.place
+    (omega (arith, c.facts.ensures.count, c.index.ensures.bound)) (omega (arith, n, c.count_of-used.ensures, c.if-used-gt0.false))
+    (omega (arith, m, c.count_of-resting.ensures, c.if-resting-ge-ALLOTMENT.false)) c.push_back.ensures.kept c.push_back.ensures.room c.push_back.ensures.pushed c.push_back.ensures.places refl in
     record { good = d.good; rested = d.does }

@@ -6,13 +6,13 @@ use Rattle.tables.proofs.Books.{in_reach_login}
 use Rattle.tables.proofs.Less.{Less, taken}
 use Rattle.tables.proofs.held.Tables.sweep.Goals as goal
 
-off : (c : goal.After-take-off) → Less (in_reach c.args.login.value (reach_number c.args.reach)) c.args.self.now c.take-off.new.self c.take-off.result
+off : (c : goal.After-take_off) → Less (in_reach c.args.login.value (reach_number c.args.reach)) c.args.self.now c.take_off.new.self c.take_off.result
 off c =
     taken (in_reach c.args.login.value (reach_number c.args.reach)) c.args.login.value (in_reach_login c.args.login.value (reach_number c.args.reach))
-    c.args.self.now c.take-off.new.self c.take-off.result c.requires c.take-off.ensures.kept c.take-off.ensures.sum c.take-off.ensures.left c.take-off.ensures.places c.take-off.ensures.slips
+    c.args.self.now c.take_off.new.self c.take_off.result c.requires c.take_off.ensures.kept c.take_off.ensures.sum c.take_off.ensures.left c.take_off.ensures.places c.take_off.ensures.slips
 
-pub overflow-cast-result : goal.overflow-cast-result
-overflow-cast-result c = omega (arith, (off c).bound)
+pub overflow_cast-result : goal.overflow_cast-result
+overflow_cast-result c = omega (arith, (off c).bound)
 
 pub returns : goal.returns
-returns c = record { good = (off c).well-formed; swept = ((off c).sum, (off c).left); bound = (off c).bound }
+returns c = record { good = (off c).good; swept = ((off c).sum, (off c).left); bound = (off c).bound }

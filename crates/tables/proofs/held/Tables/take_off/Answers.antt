@@ -1,10 +1,10 @@
 -- Each turn clears one series more.
-use Rattle.std.proofs.Common.{◌≡◌, ◌+◌, ◌<◌, ◌≤◌, [], length, get_or, sym, ap, ◌∙◌, arith}
+use Rattle.std.proofs.Common.{◌<◌, ◌≤◌, [], length, get_or, ap, ◌∙◌, arith}
 use Rattle.std.proofs.lemmas.List.{take_all}
 use Rattle.chains.specs.Asks.{without_all, saturated}
 use Rattle.chains.specs.Lists.{lists, changed}
 use Rattle.tables.specs.Tally.{weighed}
-use Rattle.tables.proofs.Listed.{done_to, done_at, done_more, done_all, weighed_more}
+use Rattle.tables.proofs.Listed.{done_at, done_more, done_all, weighed_more}
 use Rattle.tables.proofs.held.Tables.take_off.Goals as goal
 
 pub loop-k-preserved : goal.loop-k-preserved
@@ -15,10 +15,10 @@ loop-k-preserved g c =
     let lt : k < length ls = omega (arith, c.facts.ensures.count) in
     let i = c.loop-k.invariant in
     let same = ap (λ v. get_or v k []) i.2 ∙ done_at (without_all p) k ls in (
-      c.remove-all.ensures.kept,
-      weighed_more (λ e. e.contracts.value) p ls (lists c.loop-k.self.entries) k _ _ _ lt same i.1 c.remove-all.ensures.sum c.saturating-add-sum.ensures,
-      c.remove-all.ensures.left ∙ ap (λ v. changed (without_all p) v k) i.2 ∙ done_more (without_all p) k ls lt,
-      c.remove-all.ensures.places ∙ i.3,
+      c.remove_all.ensures.kept,
+      weighed_more (λ e. e.contracts.value) p ls (lists c.loop-k.self.entries) k _ _ _ lt same i.1 c.remove_all.ensures.sum c.saturating_add-sum.ensures,
+      c.remove_all.ensures.left ∙ ap (λ v. changed (without_all p) v k) i.2 ∙ done_more (without_all p) k ls lt,
+      c.remove_all.ensures.places ∙ i.3,
       i.4,
     )
 

@@ -1,32 +1,30 @@
 -- The buy first, then the sell, which still stands.
-use Rattle.std.proofs.Common.{◌≡◌, ◌+◌, ◌≤◌, [], length, get_or, sym, ap, ◌∙◌, arith}
+use Rattle.std.proofs.Common.{ap, ◌∙◌, arith}
 use Rattle.std.proofs.lemmas.Bool.{ltb-false}
-use Rattle.chains.specs.Lists.{places}
-use Rattle.market.specs.Book.{slip_count}
 use Rattle.market.specs.Seen.{seen}
-use Rattle.tables.specs.Cross.{fill_of, trade_of, Stands}
-use Rattle.tables.specs.Held.{book_of, resting_of, slips_of}
-use Rattle.tables.proofs.Pairs.{still_stands, both_sides, struck_so, stands_in, trade_is, both_lose}
+use Rattle.tables.specs.Cross.{fill_of}
+use Rattle.tables.specs.Held.{book_of, resting_of}
+use Rattle.tables.proofs.Pairs.{both_sides, struck_so, stands_in, trade_is, both_lose}
 use Rattle.tables.proofs.held.Tables.trade.Goals as goal
 
-pub trade-side-requires : goal.trade-side-requires
-trade-side-requires c =
+pub trade_side-requires : goal.trade_side-requires
+trade_side-requires c =
     let room = ltb-false _ _ c.requires.room in
     record { series = c.requires.series; good = c.requires.good; stands = c.requires.meet.buy_stands; enough = c.requires.fair.bought; room = omega (arith, room) }
 
-pub trade-side-requires-2 : goal.trade-side-requires-2
-trade-side-requires-2 c =
+pub trade_side-requires-2 : goal.trade_side-requires-2
+trade_side-requires-2 c =
     let room = ltb-false _ _ c.requires.room in
     let t = c.args.self.now in
     let buy = seen c.args.crossing.buy in
     let sell = seen c.args.crossing.sell in
     record {
       series = c.requires.series;
-      good = c.trade-side.ensures.good;
-      stands = stands_in (book_of t) (book_of c.trade-side.new.self) (fill_of buy c.args.contracts.value c.args.price.value) sell c.args.crossing.series
-          (λ e. omega (arith, e, c.requires.meet.buys, c.requires.meet.sells)) (omega (arith, c.facts.ensures.series, c.requires.series)) c.trade-side.ensures.traded c.requires.meet.sell_stands;
+      good = c.trade_side.ensures.good;
+      stands = stands_in (book_of t) (book_of c.trade_side.new.self) (fill_of buy c.args.contracts.value c.args.price.value) sell c.args.crossing.series
+          (λ e. omega (arith, e, c.requires.meet.buys, c.requires.meet.sells)) (omega (arith, c.facts.ensures.series, c.requires.series)) c.trade_side.ensures.traded c.requires.meet.sell_stands;
       enough = c.requires.fair.sold;
-      room = omega (arith, room, c.trade-side.ensures.more, ap (λ b. b.room) c.trade-side.ensures.traded);
+      room = omega (arith, room, c.trade_side.ensures.more, ap (λ b. b.room) c.trade_side.ensures.traded);
     }
 
 pub returns : goal.returns
@@ -37,12 +35,12 @@ returns c =
     let is = trade_is buy sell c.args.contracts.value c.args.price.value _ _ _ _ c.party.ensures c.party-2.ensures
     (c.from.ensures ∙ c.number.ensures) (c.from-2.ensures ∙ c.number-2.ensures) in
     record {
-      good = c.trade-side-2.ensures.good;
+      good = c.trade_side-2.ensures.good;
       trade = is;
-      struck = struck_so (book_of t) (book_of c.trade-side-2.new.self) c.args.crossing.series buy sell c.args.contracts.value c.args.price.value _ is
+      struck = struck_so (book_of t) (book_of c.trade_side-2.new.self) c.args.crossing.series buy sell c.args.contracts.value c.args.price.value _ is
           (omega (arith, c.facts.ensures.series, c.requires.series)) c.requires.meet c.requires.fair c.requires.room
-          (both_sides (book_of t) (book_of c.trade-side.new.self) (book_of c.trade-side-2.new.self) buy sell c.args.contracts.value c.args.price.value c.requires.meet.buys c.requires.meet.sells
-          c.trade-side.ensures.traded c.trade-side-2.ensures.traded);
-      even = both_lose buy sell c.args.contracts.value _ (resting_of t) (resting_of c.trade-side.new.self) (resting_of c.trade-side-2.new.self) c.requires.meet.buys c.requires.meet.sells (c.from.ensures ∙ c.number.ensures)
-          c.trade-side.ensures.own c.trade-side.ensures.others c.trade-side-2.ensures.own c.trade-side-2.ensures.others;
+          (both_sides (book_of t) (book_of c.trade_side.new.self) (book_of c.trade_side-2.new.self) buy sell c.args.contracts.value c.args.price.value c.requires.meet.buys c.requires.meet.sells
+          c.trade_side.ensures.traded c.trade_side-2.ensures.traded);
+      even = both_lose buy sell c.args.contracts.value _ (resting_of t) (resting_of c.trade_side.new.self) (resting_of c.trade_side-2.new.self) c.requires.meet.buys c.requires.meet.sells (c.from.ensures ∙ c.number.ensures)
+          c.trade_side.ensures.own c.trade_side.ensures.others c.trade_side-2.ensures.own c.trade_side-2.ensures.others;
     }

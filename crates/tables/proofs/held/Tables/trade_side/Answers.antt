@@ -1,9 +1,7 @@
 -- The entry, then the slip.
 use Rattle.std.proofs.Common.{ap, ◌∙◌, arith}
-use Rattle.tables.specs.Held.{slips_of}
 use Rattle.terms.specs.Kinds.{side_number}
-use Rattle.market.specs.Book.{slip_count, totals}
-use Rattle.chains.specs.Lists.{lists, places}
+use Rattle.market.specs.Book.{totals}
 use Rattle.tables.specs.Cross.{fill_of, on_side}
 use Rattle.market.specs.Seen.{seen}
 use Rattle.tables.proofs.Trades.{side_done, same_count}
@@ -12,10 +10,10 @@ use Rattle.tables.proofs.held.Tables.trade_side.Goals as goal
 pub returns : goal.returns
 returns c =
     record {
-      good = c.give-slip.ensures.good;
-      traded = side_done c.args.self.now c.fill.new.self c.give-slip.new.self (fill_of (seen c.args.entry) c.args.contracts.value c.args.price.value)
-          (c.fill.ensures.filled c.args.price.value) c.fill.ensures.slips c.give-slip.ensures.given;
-      more = omega (arith, c.give-slip.ensures.more, same_count c.fill.new.self c.args.self.now c.fill.ensures.slips);
-      own = omega (arith, c.fill.ensures.own, ap (λ b. totals (on_side (side_number c.args.entry.side)) b.resting) c.give-slip.ensures.given);
-      others = λ side ne. ap (λ b. totals (on_side side) b.resting) c.give-slip.ensures.given ∙ c.fill.ensures.others side ne;
+      good = c.give_slip.ensures.good;
+      traded = side_done c.args.self.now c.fill.new.self c.give_slip.new.self (fill_of (seen c.args.entry) c.args.contracts.value c.args.price.value)
+          (c.fill.ensures.filled c.args.price.value) c.fill.ensures.slips c.give_slip.ensures.given;
+      more = omega (arith, c.give_slip.ensures.more, same_count c.fill.new.self c.args.self.now c.fill.ensures.slips);
+      own = omega (arith, c.fill.ensures.own, ap (λ b. totals (on_side (side_number c.args.entry.side)) b.resting) c.give_slip.ensures.given);
+      others = λ side ne. ap (λ b. totals (on_side side) b.resting) c.give_slip.ensures.given ∙ c.fill.ensures.others side ne;
     }

@@ -1,16 +1,18 @@
 //! The program: plays a day, or answers questions of price, from standard input.
 
+#![tactic(auto)]
+
 mod day;
 mod faults;
 mod price;
 mod script_file;
 
-use anyhow::anyhow;
 use day::{Priority, play_day};
 use faults::Stop;
 use price::price_desk;
 use script::number;
-use std::env;
+use std::process::ExitCode;
+use std::{env, io};
 
 /// The slip table's length where none is given.
 const SLIP_SLOTS: usize = 65;
@@ -94,10 +96,12 @@ fn play(rt: &HostRuntime) -> Result<(), Stop> {
     }
 }
 
-fn main(rt: HostRuntime) -> anyhow::Result<()> {
-    if let Err(stop) = play(&rt) {
-        eprintln!(rt; "cudrelis: {stop}")?;
-        return Err(anyhow!("stopped"));
+fn main(rt: HostRuntime) -> io::Result<ExitCode> {
+    match play(&rt) {
+        Ok(()) => Ok(ExitCode::SUCCESS),
+        Err(stop) => {
+            eprintln!(rt; "cudrelis: {stop}")?;
+            Ok(ExitCode::FAILURE)
+        }
     }
-    Ok(())
 }

@@ -6,8 +6,8 @@ use std::test::Fail;
 #[test]
 fn words_stand_apart(rt: HostRuntime) -> Result<(), Fail> {
     let mut reader = Reader::new(b"  tick\t5#x 6");
-    assert!(rt; reader.next_word().ok_or("no word")? == b"tick");
-    assert!(rt; reader.next_word().ok_or("no word")? == b"5");
+    assert!(rt; reader.next_word().ok_or("no word")? == b"tick".as_slice());
+    assert!(rt; reader.next_word().ok_or("no word")? == b"5".as_slice());
     assert!(rt; reader.next_word().is_none());
     assert!(rt; reader.next_word().is_none());
     Ok(())

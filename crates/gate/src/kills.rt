@@ -33,7 +33,6 @@ impl<'g, M: Market, C: Check> Gate<'g, M, C> {
     pub fn kill(&mut self, scope: ScopeNumber, reach: u64, block: u64) -> Result<u32, Refusal>
         ensures { Steps C.Check.meaning M.Market.book C.Check.public C.Check.private self.old (Event.Kill scope reach block result) self.new }
     {
-        let _probe = 0u8;
         let kill = self.admit_kill(scope, reach, block)?;
         all_rows(&self.rows);
         let cancelled = self.sweep_all(Cut::Kill {

@@ -4,3 +4,4 @@ pub mod Kinds
 pub mod Values
 pub mod Tables
 pub mod Answers
+pub mod Entered

@@ -55,3 +55,8 @@ or_field (Some x) = Ok x
 abbrev pub Reads : {X : Type 0} → (X → ℕ) → (low high n : ℕ) → Result X Refusal → Type 0
 Reads number low high n (Ok x) = (number x ≡ n) × (low ≤ n) × (n ≤ high)
 Reads number low high n (Err e) = (e ≡ Field) × (low ≤ n → n ≤ high → ⊥)
+
+-- Where n is one of the numbers from low to high it is read as the value that has that number, and else refused: read gives that value, or none.
+pub record ReadAs {X : Type 0} (number : X → ℕ) (low high : ℕ) (read : ℕ → Option X) (n : ℕ) (answer : Result X Refusal) : Type 0 where
+  pub value : answer ≡ or_field (read n)
+  pub reads : Reads number low high n answer

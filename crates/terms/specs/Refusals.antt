@@ -1,6 +1,8 @@
 -- The number and the word of each refusal: the one place for both. Assumes nothing.
-use Rattle.std.specs.Prelude.{ℕ, List, Ok, Err, codes, Result}
+use Rattle.std.specs.Prelude.{◌≡◌, ℕ, List, [], ◌∷◌, ◌++◌, Some, None, Ok, Err, Option, Result, codes, decimal}
 use Rattle.terms.specs.declared.refusal.Refusal.{Refusal}
+use Rattle.terms.specs.declared.refusal.UnknownNumber.{UnknownNumber}
+use Rattle.terms.specs.Kinds.{named}
 use Rattle.terms.specs.declared.refusal.Refusal.TheVariants.{Field, ShortTable, NotEmpty, NotOpen, Taken, Leaving, ClockBack, NoOrder, NoSlip, SlipOut, WrongSlip, NoValues, Held, InUse, Allotment, SlipsFull, TooLarge, PutAndCall, LimitPrice}
 
 abbrev pub number : Refusal → ℕ
@@ -49,3 +51,21 @@ word LimitPrice = codes "price"
 abbrev pub answer : {X : Type 0} → Result X Refusal → ℕ
 answer (Ok x) = 0
 answer (Err e) = number e
+
+-- all of them
+abbrev pub refusals : List Refusal
+refusals =
+    Field ∷ ShortTable ∷ NotEmpty ∷ NotOpen ∷ Taken ∷ Leaving ∷ ClockBack ∷ NoOrder ∷ NoSlip ∷ SlipOut ∷ WrongSlip ∷ NoValues ∷ Held ∷ InUse ∷ Allotment ∷ SlipsFull ∷ TooLarge ∷ PutAndCall ∷ LimitPrice ∷ []
+
+-- the refusal that has a number
+abbrev pub refusal_of : ℕ → Option Refusal
+refusal_of = named number refusals
+
+-- A number is read as the refusal that has it, and handed back where none has.
+abbrev pub ReadsRefusal : ℕ → Result Refusal UnknownNumber → Type 0
+ReadsRefusal n (Ok x) = refusal_of n ≡ Some x
+ReadsRefusal n (Err e) = (refusal_of n ≡ None) × (e.0 ≡ n)
+
+-- a refusal as it is printed: its number, and its word in brackets
+abbrev pub refusal_text : Refusal → List ℕ
+refusal_text x = decimal (number x) ++ (codes " (" ++ (word x ++ codes ")"))

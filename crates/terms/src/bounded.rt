@@ -3,7 +3,7 @@
 ghost use Rattle.std.specs.Prelude.{◌≤◌};
 
 /// A number from LOW to HIGH. The range is part of the type, so what holds one need not test it again.
-#[derive(Clone, Copy, PartialEq, Eq)]
+#[derive(Clone, Copy, Debug, PartialEq, Eq, PartialOrd, Ord)]
 pub struct Bounded<const LOW: u32, const HIGH: u32> {
     pub(crate) value: u32,
     ghost low: { LOW ≤ value },

@@ -4,7 +4,7 @@ use crate::kinds::{Kind, Side};
 use crate::ranges::{Contracts, Login, OrderNumber, Price};
 
 /// An order or a quote that rests, with the contracts left.
-#[derive(Clone, Copy)]
+#[derive(Clone, Copy, Debug, PartialEq, Eq)]
 pub struct Entry {
     pub login: Login,
     pub number: OrderNumber,
@@ -15,7 +15,7 @@ pub struct Entry {
 }
 
 /// What a login is told of a trade, while it waits to be taken.
-#[derive(Clone, Copy)]
+#[derive(Clone, Copy, Debug, PartialEq, Eq)]
 pub struct Slip {
     pub number: OrderNumber,
     pub side: Side,

@@ -1,5 +1,8 @@
 //! The calls of a gate, what it answers, and the two together: an event.
 
+ghost use Rattle.std.specs.Prelude.{◌≡◌};
+ghost use Rattle.terms.specs.Entered.{entered_number, entered_effect};
+
 use crate::messages::{Causes, Fill, LimitNumbers, ScopeNumber, Ticket};
 use crate::refusal::Refusal;
 use crate::values::ValueNumbers;
@@ -54,27 +57,58 @@ pub enum Call {
 }
 
 /// What came of telling the checks: what tripped, and the contracts that were cancelled by it.
-#[derive(Clone, Copy)]
+#[derive(Clone, Copy, Debug, PartialEq, Eq)]
 pub struct Effect {
     pub causes: Causes,
     pub cancelled: u32,
 }
 
-/// What enter answers: 0, or the number of a refusal or of a turn-down, and what came of it. On 21 the causes are those of the holds.
-#[derive(Clone, Copy)]
-pub struct EnterAnswer {
-    pub number: u8,
-    pub effect: Effect,
+/// What enter answers.
+#[derive(Clone, Copy, Debug, PartialEq, Eq)]
+pub enum EnterAnswer {
+    /// The entry rests.
+    Accepted { effect: Effect },
+    /// A check turns it down, with a number from 41 to 59.
+    TurnedDown { number: u8, effect: Effect },
+    /// It is refused; where it is held, for these causes.
+    Refused { refusal: Refusal, holds: Causes },
+}
+
+impl EnterAnswer {
+    /// 0 where the entry rests, else the number of its turn-down or of its refusal.
+    pub fn number(&self) -> u8
+        ensures { result ≡ entered_number self.now }
+    {
+        match *self {
+            EnterAnswer::Accepted { .. } => 0,
+            EnterAnswer::TurnedDown { number, .. } => number,
+            EnterAnswer::Refused { refusal, .. } => refusal.number(),
+        }
+    }
+
+    /// What tripped and was cancelled; the causes of a refusal are those of the holds.
+    pub fn effect(&self) -> Effect
+        ensures { result ≡ entered_effect self.now }
+    {
+        match *self {
+            EnterAnswer::Accepted { effect } => effect,
+            EnterAnswer::TurnedDown { effect, .. } => effect,
+            EnterAnswer::Refused { holds, .. } => Effect {
+                causes: holds,
+                cancelled: 0,
+            },
+        }
+    }
 }
 
 /// Who stands on one side of a trade, and with which entry.
-#[derive(Clone, Copy)]
+#[derive(Clone, Copy, Debug, PartialEq, Eq)]
 pub struct Party {
     pub login: u64,
     pub number: u64,
 }
 
-#[derive(Clone, Copy)]
+#[derive(Clone, Copy, Debug, PartialEq, Eq)]
 pub struct Trade {
     pub buyer: Party,
     pub seller: Party,
@@ -83,7 +117,7 @@ pub struct Trade {
 }
 
 /// What strike answers where it trades: the trade, and what came of telling each side of it.
-#[derive(Clone, Copy)]
+#[derive(Clone, Copy, Debug, PartialEq, Eq)]
 pub struct Struck {
     pub trade: Trade,
     pub buy: Effect,

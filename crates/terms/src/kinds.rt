@@ -1,53 +1,53 @@
 //! The words that have few values, and how a plain number becomes one of them.
 
 ghost use Rattle.std.specs.Prelude.{◌≡◌};
-ghost use Rattle.terms.specs.Ranges.{or_field, Reads};
+ghost use Rattle.terms.specs.Ranges.{ReadAs};
 ghost use Rattle.terms.specs.Kinds.{side, side_number, kind, kind_number, role, role_number, marks, marks_number, reach, reach_number, option_type, option_type_number, class, class_number, phase, phase_number, limit_kind, limit_kind_number, flag_of, flag_number};
 
 use crate::refusal::Refusal;
 
-#[derive(Clone, Copy)]
+#[derive(Clone, Copy, Debug, PartialEq, Eq)]
 pub enum Side {
     Buy,
     Sell,
 }
 
 /// What an entry is: an order, or one side of a quote.
-#[derive(Clone, Copy)]
+#[derive(Clone, Copy, Debug, PartialEq, Eq)]
 pub enum Kind {
     Order,
     Quote,
 }
 
-#[derive(Clone, Copy)]
+#[derive(Clone, Copy, Debug, PartialEq, Eq)]
 pub enum Role {
     Member,
     MarketMaker,
 }
 
 /// What an order is marked as: an intermarket sweep, a stop order, both or neither.
-#[derive(Clone, Copy)]
+#[derive(Clone, Copy, Debug, PartialEq, Eq)]
 pub struct Marks {
     pub sweep: bool,
     pub stop: bool,
 }
 
 /// Which kinds of a login's entries are taken off together.
-#[derive(Clone, Copy)]
+#[derive(Clone, Copy, Debug, PartialEq, Eq)]
 pub enum Reach {
     Quotes,
     Orders,
     Both,
 }
 
-#[derive(Clone, Copy)]
+#[derive(Clone, Copy, Debug, PartialEq, Eq)]
 pub enum OptionType {
     Call,
     Put,
 }
 
 /// The class of a series, by which its distances go.
-#[derive(Clone, Copy)]
+#[derive(Clone, Copy, Debug, PartialEq, Eq)]
 pub enum Class {
     One,
     Two,
@@ -55,7 +55,7 @@ pub enum Class {
     Four,
 }
 
-#[derive(Clone, Copy)]
+#[derive(Clone, Copy, Debug, PartialEq, Eq)]
 pub enum Phase {
     BeforeOpening,
     Open,
@@ -63,7 +63,7 @@ pub enum Phase {
 }
 
 /// What a limit counts: entries accepted, contracts filled, entries turned down for their price, or the contracts of one entry.
-#[derive(Clone, Copy)]
+#[derive(Clone, Copy, Debug, PartialEq, Eq)]
 pub enum LimitKind {
     Entries,
     Fills,
@@ -71,11 +71,12 @@ pub enum LimitKind {
     Size,
 }
 
-impl Side {
-    pub fn from_number(n: u64) -> Result<Side, Refusal>
-        ensures value { result ≡ or_field (side n) }
-        ensures reads { Reads side_number 1 2 n result }
-    {
+impl TryFrom<u64> for Side {
+    type Error = Refusal;
+
+    ghost try_from_gives = { ReadAs side_number 1 2 side };
+
+    fn try_from(n: u64) -> Result<Side, Refusal> {
         match n {
             1 => Ok(Side::Buy),
             2 => Ok(Side::Sell),
@@ -84,11 +85,23 @@ impl Side {
     }
 }
 
-impl Kind {
-    pub fn from_number(n: u64) -> Result<Kind, Refusal>
-        ensures value { result ≡ or_field (kind n) }
-        ensures reads { Reads kind_number 1 2 n result }
-    {
+impl From<Side> for u64 {
+    ghost from_gives = { λ s n. n ≡ side_number s };
+
+    fn from(side: Side) -> u64 {
+        match side {
+            Side::Buy => 1,
+            Side::Sell => 2,
+        }
+    }
+}
+
+impl TryFrom<u64> for Kind {
+    type Error = Refusal;
+
+    ghost try_from_gives = { ReadAs kind_number 1 2 kind };
+
+    fn try_from(n: u64) -> Result<Kind, Refusal> {
         match n {
             1 => Ok(Kind::Order),
             2 => Ok(Kind::Quote),
@@ -97,11 +110,12 @@ impl Kind {
     }
 }
 
-impl Role {
-    pub fn from_number(n: u64) -> Result<Role, Refusal>
-        ensures value { result ≡ or_field (role n) }
-        ensures reads { Reads role_number 1 2 n result }
-    {
+impl TryFrom<u64> for Role {
+    type Error = Refusal;
+
+    ghost try_from_gives = { ReadAs role_number 1 2 role };
+
+    fn try_from(n: u64) -> Result<Role, Refusal> {
         match n {
             1 => Ok(Role::Member),
             2 => Ok(Role::MarketMaker),
@@ -110,11 +124,12 @@ impl Role {
     }
 }
 
-impl Marks {
-    pub fn from_number(n: u64) -> Result<Marks, Refusal>
-        ensures value { result ≡ or_field (marks n) }
-        ensures reads { Reads marks_number 0 3 n result }
-    {
+impl TryFrom<u64> for Marks {
+    type Error = Refusal;
+
+    ghost try_from_gives = { ReadAs marks_number 0 3 marks };
+
+    fn try_from(n: u64) -> Result<Marks, Refusal> {
         match n {
             0..=3 => Ok(Marks {
                 sweep: n % 2 == 1,
@@ -125,11 +140,12 @@ impl Marks {
     }
 }
 
-impl Reach {
-    pub fn from_number(n: u64) -> Result<Reach, Refusal>
-        ensures value { result ≡ or_field (reach n) }
-        ensures reads { Reads reach_number 1 3 n result }
-    {
+impl TryFrom<u64> for Reach {
+    type Error = Refusal;
+
+    ghost try_from_gives = { ReadAs reach_number 1 3 reach };
+
+    fn try_from(n: u64) -> Result<Reach, Refusal> {
         match n {
             1 => Ok(Reach::Quotes),
             2 => Ok(Reach::Orders),
@@ -139,11 +155,12 @@ impl Reach {
     }
 }
 
-impl OptionType {
-    pub fn from_number(n: u64) -> Result<OptionType, Refusal>
-        ensures value { result ≡ or_field (option_type n) }
-        ensures reads { Reads option_type_number 1 2 n result }
-    {
+impl TryFrom<u64> for OptionType {
+    type Error = Refusal;
+
+    ghost try_from_gives = { ReadAs option_type_number 1 2 option_type };
+
+    fn try_from(n: u64) -> Result<OptionType, Refusal> {
         match n {
             1 => Ok(OptionType::Call),
             2 => Ok(OptionType::Put),
@@ -152,11 +169,12 @@ impl OptionType {
     }
 }
 
-impl Class {
-    pub fn from_number(n: u64) -> Result<Class, Refusal>
-        ensures value { result ≡ or_field (class n) }
-        ensures reads { Reads class_number 1 4 n result }
-    {
+impl TryFrom<u64> for Class {
+    type Error = Refusal;
+
+    ghost try_from_gives = { ReadAs class_number 1 4 class };
+
+    fn try_from(n: u64) -> Result<Class, Refusal> {
         match n {
             1 => Ok(Class::One),
             2 => Ok(Class::Two),
@@ -167,11 +185,12 @@ impl Class {
     }
 }
 
-impl Phase {
-    pub fn from_number(n: u64) -> Result<Phase, Refusal>
-        ensures value { result ≡ or_field (phase n) }
-        ensures reads { Reads phase_number 1 3 n result }
-    {
+impl TryFrom<u64> for Phase {
+    type Error = Refusal;
+
+    ghost try_from_gives = { ReadAs phase_number 1 3 phase };
+
+    fn try_from(n: u64) -> Result<Phase, Refusal> {
         match n {
             1 => Ok(Phase::BeforeOpening),
             2 => Ok(Phase::Open),
@@ -181,11 +200,12 @@ impl Phase {
     }
 }
 
-impl LimitKind {
-    pub fn from_number(n: u64) -> Result<LimitKind, Refusal>
-        ensures value { result ≡ or_field (limit_kind n) }
-        ensures reads { Reads limit_kind_number 1 4 n result }
-    {
+impl TryFrom<u64> for LimitKind {
+    type Error = Refusal;
+
+    ghost try_from_gives = { ReadAs limit_kind_number 1 4 limit_kind };
+
+    fn try_from(n: u64) -> Result<LimitKind, Refusal> {
         match n {
             1 => Ok(LimitKind::Entries),
             2 => Ok(LimitKind::Fills),
@@ -196,10 +216,9 @@ impl LimitKind {
     }
 }
 
-/// A flag: 0 is off, 1 is on.
+/// A flag: 0 is off, 1 is on. A function, since neither `bool` nor `u64` is of this crate, whose own `TryFrom` it could be.
 pub fn flag(n: u64) -> Result<bool, Refusal>
-    ensures value { result ≡ or_field (flag_of n) }
-    ensures reads { Reads flag_number 0 1 n result }
+    ensures { ReadAs flag_number 0 1 flag_of n result }
 {
     match n {
         0 => Ok(false),

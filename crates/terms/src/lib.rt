@@ -17,9 +17,10 @@ pub use events::{Call, Effect, EnterAnswer, Event, Party, Struck, Trade};
 pub use kinds::{Class, Kind, LimitKind, Marks, OptionType, Phase, Reach, Role, Side, flag};
 pub use messages::{Asked, Causes, Fill, LimitNumbers, Notice, ScopeNumber, Ticket};
 pub use ranges::{
-    Acronym, Contracts, Interval, Limit, Login, OrderNumber, Price, Series, Time, optional_price,
+    Acronym, Contracts, Interval, Limit, Login, OrderNumber, Price, Series, Time, TurnDown,
+    optional_price,
 };
-pub use refusal::Refusal;
+pub use refusal::{Refusal, UnknownNumber};
 pub use values::{
     BidOffer, ConditionNumbers, Conditions, Request, RequestNumbers, Scope, ValueNumbers, Values,
 };

@@ -3,7 +3,7 @@
 use crate::values::ValueNumbers;
 
 /// A login, or a firm with all its logins.
-#[derive(Clone, Copy)]
+#[derive(Clone, Copy, Debug, PartialEq, Eq)]
 pub enum ScopeNumber {
     Login(u64),
     Acronym(u64),
@@ -40,7 +40,7 @@ pub struct LimitNumbers {
 }
 
 /// One side of a trade; also a slip that is handed out.
-#[derive(Clone, Copy)]
+#[derive(Clone, Copy, Debug, PartialEq, Eq)]
 pub struct Fill {
     pub login: u64,
     pub number: u64,
@@ -91,7 +91,7 @@ pub enum Notice {
 }
 
 /// What trips a login and its acronym: 0 is no trip.
-#[derive(Clone, Copy)]
+#[derive(Clone, Copy, Debug, PartialEq, Eq)]
 pub struct Causes {
     pub login: u8,
     pub acronym: u8,

@@ -1,7 +1,7 @@
 //! The venue's numbers and their ranges, and how a plain number becomes one of them.
 
 ghost use Rattle.std.specs.Prelude.{◌≡◌, ◌+◌, ◌-◌, ◌≤◌};
-ghost use Rattle.terms.specs.Ranges.{bounded, optional, or_field, Reads, or_zero};
+ghost use Rattle.terms.specs.Ranges.{bounded, optional, ReadAs, or_zero};
 
 use crate::bounded::Bounded;
 use crate::refusal::Refusal;
@@ -32,18 +32,32 @@ pub type Limit = Bounded<0, 1_000_000>;
 /// How long an event counts, in milliseconds: a day at most.
 pub type Interval = Bounded<1, 86_400_000>;
 
-impl<const LOW: u32, const HIGH: u32> Bounded<LOW, HIGH> {
+/// The number that a check turns an entry down with.
+pub type TurnDown = Bounded<41, 59>;
+
+impl<const LOW: u32, const HIGH: u32> TryFrom<u64> for Bounded<LOW, HIGH> {
+    type Error = Refusal;
+
+    ghost try_from_gives = { ReadAs (λ b. b.value) LOW HIGH (bounded LOW HIGH) };
+
     /// The number n, where it lies in the range.
-    pub fn from_number(n: u64) -> Result<Bounded<LOW, HIGH>, Refusal>
-        ensures value { result ≡ or_field (bounded LOW HIGH n) }
-        ensures reads { Reads (λ b. b.value) LOW HIGH n result }
-    {
+    fn try_from(n: u64) -> Result<Bounded<LOW, HIGH>, Refusal> {
         if n < LOW as u64 || n > HIGH as u64 {
             return Err(Refusal::Field);
         }
         Ok(Bounded { value: n as u32 })
     }
+}
 
+impl<const LOW: u32, const HIGH: u32> From<Bounded<LOW, HIGH>> for u64 {
+    ghost from_gives = { λ b n. n ≡ b.value };
+
+    fn from(b: Bounded<LOW, HIGH>) -> u64 {
+        u64::from(b.value)
+    }
+}
+
+impl<const LOW: u32, const HIGH: u32> Bounded<LOW, HIGH> {
     pub fn number(self) -> u32
         ensures { result ≡ self.entry.value }
     {
@@ -59,14 +73,13 @@ impl<const LOW: u32, const HIGH: u32> Bounded<LOW, HIGH> {
     }
 }
 
-/// A price, where 0 stands for none.
+/// A price, where 0 stands for none. A function, since neither `Option` nor `u64` is of this crate, whose own `TryFrom` it could be.
 pub fn optional_price(n: u64) -> Result<Option<Price>, Refusal>
-    ensures value { result ≡ or_field (optional n) }
-    ensures reads { Reads or_zero 0 1000000 n result }
+    ensures { ReadAs or_zero 0 1000000 optional n result }
 {
     if n == 0 {
         return Ok(None);
     }
-    let price = Price::from_number(n)?;
+    let price = Price::try_from(n)?;
     Ok(Some(price))
 }

@@ -1,56 +1,42 @@
 //! Why a call is refused, with the number and the word that the venue knows it by.
 
-ghost use Rattle.std.specs.Prelude.{◌≡◌};
-ghost use Rattle.terms.specs.Refusals.{number as number_of, word as word_of};
+ghost use Rattle.std.specs.Prelude.{◌≡◌, Some};
+ghost use Rattle.terms.specs.Refusals.{number as number_of, word as word_of, ReadsRefusal, refusal_text};
 
-#[derive(Clone, Copy)]
+use std::fmt;
+
+#[derive(Clone, Copy, Debug, PartialEq, Eq)]
 pub enum Refusal {
-    Field,
-    ShortTable,
-    NotEmpty,
-    NotOpen,
-    Taken,
-    Leaving,
-    ClockBack,
-    NoOrder,
-    NoSlip,
-    SlipOut,
-    WrongSlip,
-    NoValues,
-    Held,
-    InUse,
-    Allotment,
-    SlipsFull,
-    TooLarge,
-    PutAndCall,
-    LimitPrice,
+    Field = 1,
+    ShortTable = 2,
+    NotEmpty = 3,
+    NotOpen = 11,
+    Taken = 12,
+    Leaving = 13,
+    ClockBack = 14,
+    NoOrder = 15,
+    NoSlip = 16,
+    SlipOut = 17,
+    WrongSlip = 18,
+    NoValues = 19,
+    Held = 21,
+    InUse = 31,
+    Allotment = 32,
+    SlipsFull = 33,
+    TooLarge = 41,
+    PutAndCall = 42,
+    LimitPrice = 43,
 }
+
+/// A number that no refusal has.
+#[derive(Clone, Copy, Debug, PartialEq, Eq)]
+pub struct UnknownNumber(pub u8);
 
 impl Refusal {
     pub fn number(self) -> u8
         ensures { result ≡ number_of self }
     {
-        match self {
-            Refusal::Field => 1,
-            Refusal::ShortTable => 2,
-            Refusal::NotEmpty => 3,
-            Refusal::NotOpen => 11,
-            Refusal::Taken => 12,
-            Refusal::Leaving => 13,
-            Refusal::ClockBack => 14,
-            Refusal::NoOrder => 15,
-            Refusal::NoSlip => 16,
-            Refusal::SlipOut => 17,
-            Refusal::WrongSlip => 18,
-            Refusal::NoValues => 19,
-            Refusal::Held => 21,
-            Refusal::InUse => 31,
-            Refusal::Allotment => 32,
-            Refusal::SlipsFull => 33,
-            Refusal::TooLarge => 41,
-            Refusal::PutAndCall => 42,
-            Refusal::LimitPrice => 43,
-        }
+        self as u8
     }
 
     pub fn word(self) -> &'static str
@@ -77,5 +63,46 @@ impl Refusal {
             Refusal::PutAndCall => "put and call",
             Refusal::LimitPrice => "price",
         }
+    }
+}
+
+impl TryFrom<u8> for Refusal {
+    type Error = UnknownNumber;
+
+    ghost try_from_gives = { ReadsRefusal };
+
+    fn try_from(number: u8) -> Result<Refusal, UnknownNumber> {
+        let refusal = match number {
+            1 => Refusal::Field,
+            2 => Refusal::ShortTable,
+            3 => Refusal::NotEmpty,
+            11 => Refusal::NotOpen,
+            12 => Refusal::Taken,
+            13 => Refusal::Leaving,
+            14 => Refusal::ClockBack,
+            15 => Refusal::NoOrder,
+            16 => Refusal::NoSlip,
+            17 => Refusal::SlipOut,
+            18 => Refusal::WrongSlip,
+            19 => Refusal::NoValues,
+            21 => Refusal::Held,
+            31 => Refusal::InUse,
+            32 => Refusal::Allotment,
+            33 => Refusal::SlipsFull,
+            41 => Refusal::TooLarge,
+            42 => Refusal::PutAndCall,
+            43 => Refusal::LimitPrice,
+            _ => return Err(UnknownNumber(number)),
+        };
+        Ok(refusal)
+    }
+}
+
+/// The number and the word in brackets.
+impl fmt::Display for Refusal {
+    ghost output = { λ x. Some (refusal_text x) };
+
+    fn fmt<W: fmt::Write>(&self, f: &mut fmt::Formatter<W>) -> fmt::Result {
+        write!(f, "{} ({})", self.number(), self.word())
     }
 }

@@ -9,21 +9,21 @@ use crate::ranges::{Acronym, Login, Price, optional_price};
 use crate::refusal::Refusal;
 
 /// A login, or a firm with all its logins.
-#[derive(Clone, Copy)]
+#[derive(Clone, Copy, Debug, PartialEq, Eq)]
 pub enum Scope {
     Login(Login),
     Acronym(Acronym),
 }
 
 /// A bid and an offer, of which either may be absent.
-#[derive(Clone, Copy)]
+#[derive(Clone, Copy, Debug, PartialEq, Eq)]
 pub struct BidOffer {
     pub bid: Option<Price>,
     pub offer: Option<Price>,
 }
 
 /// What the limit price of a series goes by. The national best bid and offer come with a flag: off, they do not count.
-#[derive(Clone, Copy)]
+#[derive(Clone, Copy, Debug, PartialEq, Eq)]
 pub struct Conditions {
     pub class: Class,
     pub phase: Phase,
@@ -34,7 +34,7 @@ pub struct Conditions {
 }
 
 /// All that is known of a series; the underlying value may be absent.
-#[derive(Clone, Copy)]
+#[derive(Clone, Copy, Debug, PartialEq, Eq)]
 pub struct Values {
     pub option: OptionType,
     pub strike: Price,
@@ -43,7 +43,7 @@ pub struct Values {
 }
 
 /// What an order or a quote asks for, and the role of who sends it.
-#[derive(Clone, Copy)]
+#[derive(Clone, Copy, Debug, PartialEq, Eq)]
 pub struct Request {
     pub role: Role,
     pub side: Side,
@@ -53,7 +53,7 @@ pub struct Request {
 }
 
 /// The fields of `Conditions` as plain numbers; a price that is absent is 0.
-#[derive(Clone, Copy)]
+#[derive(Clone, Copy, Debug, PartialEq, Eq)]
 pub struct ConditionNumbers {
     pub class: u64,
     pub phase: u64,
@@ -66,7 +66,7 @@ pub struct ConditionNumbers {
 }
 
 /// The fields of `Values` as plain numbers; an underlying value that is absent is 0.
-#[derive(Clone, Copy)]
+#[derive(Clone, Copy, Debug, PartialEq, Eq)]
 pub struct ValueNumbers {
     pub option: u64,
     pub strike: u64,
@@ -75,7 +75,7 @@ pub struct ValueNumbers {
 }
 
 /// The fields of `Request` as plain numbers.
-#[derive(Clone, Copy)]
+#[derive(Clone, Copy, Debug, PartialEq, Eq)]
 pub struct RequestNumbers {
     pub role: u64,
     pub side: u64,
@@ -85,6 +85,7 @@ pub struct RequestNumbers {
 }
 
 impl BidOffer {
+    #[tactic(auto, unfolding(crate::specs::Values::bid_offer))]
     pub fn from_numbers(bid: u64, offer: u64) -> Result<BidOffer, Refusal>
         ensures { result ≡ or_field (bid_offer bid offer) }
     {
@@ -94,12 +95,15 @@ impl BidOffer {
     }
 }
 
-impl Conditions {
-    pub fn from_numbers(n: ConditionNumbers) -> Result<Conditions, Refusal>
-        ensures { result ≡ or_field (conditions n) }
-    {
-        let class = Class::from_number(n.class)?;
-        let phase = Phase::from_number(n.phase)?;
+impl TryFrom<ConditionNumbers> for Conditions {
+    type Error = Refusal;
+
+    ghost try_from_gives = { λ n r. r ≡ or_field (conditions n) };
+
+    #[tactic(auto, unfolding(crate::specs::Values::conditions))]
+    fn try_from(n: ConditionNumbers) -> Result<Conditions, Refusal> {
+        let class = Class::try_from(n.class)?;
+        let phase = Phase::try_from(n.phase)?;
         let flag = flag(n.flag)?;
         let national = BidOffer::from_numbers(n.nbb, n.nbo)?;
         let venue = BidOffer::from_numbers(n.bid, n.offer)?;
@@ -115,13 +119,16 @@ impl Conditions {
     }
 }
 
-impl Values {
-    pub fn from_numbers(n: ValueNumbers) -> Result<Values, Refusal>
-        ensures { result ≡ or_field (values n) }
-    {
-        let option = OptionType::from_number(n.option)?;
-        let strike = Price::from_number(n.strike)?;
-        let conditions = Conditions::from_numbers(n.conditions)?;
+impl TryFrom<ValueNumbers> for Values {
+    type Error = Refusal;
+
+    ghost try_from_gives = { λ n r. r ≡ or_field (values n) };
+
+    #[tactic(auto, unfolding(crate::specs::Values::values))]
+    fn try_from(n: ValueNumbers) -> Result<Values, Refusal> {
+        let option = OptionType::try_from(n.option)?;
+        let strike = Price::try_from(n.strike)?;
+        let conditions = Conditions::try_from(n.conditions)?;
         let underlying = optional_price(n.underlying)?;
         Ok(Values {
             option,
@@ -132,15 +139,18 @@ impl Values {
     }
 }
 
-impl Request {
-    pub fn from_numbers(n: RequestNumbers) -> Result<Request, Refusal>
-        ensures { result ≡ or_field (request n) }
-    {
-        let role = Role::from_number(n.role)?;
-        let side = Side::from_number(n.side)?;
-        let kind = Kind::from_number(n.kind)?;
-        let marks = Marks::from_number(n.marks)?;
-        let price = Price::from_number(n.price)?;
+impl TryFrom<RequestNumbers> for Request {
+    type Error = Refusal;
+
+    ghost try_from_gives = { λ n r. r ≡ or_field (request n) };
+
+    #[tactic(auto, unfolding(crate::specs::Values::request))]
+    fn try_from(n: RequestNumbers) -> Result<Request, Refusal> {
+        let role = Role::try_from(n.role)?;
+        let side = Side::try_from(n.side)?;
+        let kind = Kind::try_from(n.kind)?;
+        let marks = Marks::try_from(n.marks)?;
+        let price = Price::try_from(n.price)?;
         Ok(Request {
             role,
             side,

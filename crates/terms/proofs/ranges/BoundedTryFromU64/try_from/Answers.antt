@@ -2,7 +2,7 @@
 use Rattle.std.proofs.Common.{sym, ap, rules}
 use Rattle.terms.specs.Ranges.{or_field}
 use Rattle.terms.proofs.Reading.{read_inside}
-use Rattle.terms.proofs.bounded.Bounded.from_number.Goals as goal
+use Rattle.terms.proofs.ranges.BoundedTryFromU64.try_from.Goals as goal
 
 pub returns : goal.returns
 returns g c =

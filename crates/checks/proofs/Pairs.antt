@@ -1,9 +1,12 @@
 -- Two tables of records as one. Assumes nothing.
 use Rattle.std.proofs.Common.{◌≡◌, ℕ, zero, suc, Bool, true, false, cond, ◌||◌, eqb, List, [], ◌∷◌, length, get_or, sym, refl, ap, ◌∙◌, arith}
+use Rattle.std.proofs.lemmas.Bool.{ne_eqb}
+use Rattle.terms.specs.declared.bounded.Bounded.{Bounded}
+use Rattle.terms.specs.declared.messages.Asked.{Asked}
 use Rattle.terms.specs.declared.messages.Notice.{Notice}
 use Rattle.terms.specs.Tables.{at}
 use Rattle.checks.specs.Meaning.{Meaning, for_all, whose, trips, no_cause, told_public, told_private, told_each, told_causes}
-use Rattle.checks.specs.Piled.{pairs, first_causes, piled}
+use Rattle.checks.specs.Piled.{first_of, pairs, first_causes, piled}
 
 get_or_pairs : {X Y : Type 0} (xs : List X) (ys : List Y) (i : ℕ) (d : X) (e : Y) → length xs ≡ length ys → get_or (pairs xs ys) i (d, e) ≡ (get_or xs i d, get_or ys i e)
 get_or_pairs [] [] i d e h = refl
@@ -36,8 +39,20 @@ module _ (m n : Meaning) (e : Notice) where
       elim (trips e) as (λ b. first_causes (cond b (m.causes e p x) no_cause) (cond b (n.causes e q y) no_cause) ≡ cond b (first_causes (m.causes e p x) (n.causes e q y)) no_cause)
       [ true ↦ refl | false ↦ refl ]
 
-pub length_pairs : {X Y : Type 0} (k : ℕ) (xs : List X) (ys : List Y) → length xs ≡ k → length ys ≡ k → length (pairs xs ys) ≡ k
-length_pairs k [] ys h e = h
-length_pairs k (x ∷ xs) [] h e = absurd (omega arith)
-length_pairs zero (x ∷ xs) (y ∷ ys) h e = absurd (omega arith)
-length_pairs (suc k) (x ∷ xs) (y ∷ ys) h e = let z = length_pairs k xs ys (omega arith) (omega arith) in omega arith
+-- the first judges before the second, where both have eight records
+module _ (m n : Meaning) (k : Asked) (p : m.Pub) (q : n.Pub) (xs : List m.Priv) (ys : List n.Priv) (h : length xs ≡ 8) (i : length ys ≡ 8) where
+  judged_pairs : first_of (m.judged k p (at (m.fresh p) xs k.acronym)) (n.judged k q (at (n.fresh q) ys k.acronym)) ≡ (piled m n).judged k (p, q) (at (m.fresh p, n.fresh q) (pairs xs ys) k.acronym)
+  judged_pairs = sym (ap (λ (z : m.Priv × n.Priv). first_of (m.judged k p z.0) (n.judged k q z.1)) (at_pairs xs ys k.acronym (m.fresh p) (n.fresh q) h i))
+
+  -- where it turns the entry down, with its number
+  pub judged_first : (t : Bounded 41 59) → t.value ≡ m.judged k p (at (m.fresh p) xs k.acronym) → t.value ≡ (piled m n).judged k (p, q) (at (m.fresh p, n.fresh q) (pairs xs ys) k.acronym)
+  judged_first t e =
+      let y = n.judged k q (at (n.fresh q) ys k.acronym) in
+      before_any y (ne_eqb t.value 0 (omega (arith, t.low))) ∙ ap (λ x. first_of x y) e ∙ judged_pairs
+    where
+      before_any : (y : ℕ) → eqb t.value 0 ≡ false → t.value ≡ first_of t.value y
+      before_any y z = rw z
+
+  -- where it passes the entry, as the second does
+  pub judged_rest : (r : ℕ) → 0 ≡ m.judged k p (at (m.fresh p) xs k.acronym) → r ≡ n.judged k q (at (n.fresh q) ys k.acronym) → r ≡ (piled m n).judged k (p, q) (at (m.fresh p, n.fresh q) (pairs xs ys) k.acronym)
+  judged_rest r e d = d ∙ ap (λ x. first_of x (n.judged k q (at (n.fresh q) ys k.acronym))) e ∙ judged_pairs

@@ -19,7 +19,7 @@ use Rattle.checks.specs.declared.pricing.Basis.{Basis}
 use Rattle.checks.specs.declared.pricing.Basis.TheVariants as judged_by
 use Rattle.checks.specs.declared.valuing.Case.{Case}
 use Rattle.checks.specs.Judged.{Ranged, zero_ranged}
-use Rattle.checks.specs.LimitPrice.{basis, limit_price, turned_down, judged_on, past}
+use Rattle.checks.specs.LimitPrice.{basis, limit_price, if_past, judged_on, past}
 use Rattle.checks.specs.Meaning.{Meaning, Lawful, no_cause}
 use Rattle.checks.specs.PutAndCall.{ceiling, bought_below, put_and_call}
 
@@ -98,7 +98,7 @@ limit_price_of q v = limit_price q v.conditions
 pub limit_price_ranged : InRange limit_price_of
 limit_price_ranged q v = on_basis (basis q v.conditions)
   where
-    by_test : (b : Bool) → Ranged (answer (turned_down b))
+    by_test : (b : Bool) → Ranged (answer (if_past b))
     by_test true = inr (lit≤ tt, lit≤ tt)
     by_test false = zero_ranged
 

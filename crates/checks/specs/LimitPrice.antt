@@ -161,15 +161,15 @@ allowed (judged_by.Exempt e) = 0
 allowed judged_by.NoReference = 0
 allowed (judged_by.Against p d) = d
 
-abbrev pub turned_down : Bool → Result (Unit {0}) Refusal
-turned_down true = Err LimitPrice
-turned_down false = Ok tt
+abbrev pub if_past : Bool → Result (Unit {0}) Refusal
+if_past true = Err LimitPrice
+if_past false = Ok tt
 
 abbrev pub judged_on : Request → Basis → Result (Unit {0}) Refusal
 judged_on q judged_by.Quote = Ok tt
 judged_on q (judged_by.Exempt e) = Ok tt
 judged_on q judged_by.NoReference = Ok tt
-judged_on q (judged_by.Against p d) = turned_down (past q.side q.price.value p.value d)
+judged_on q (judged_by.Against p d) = if_past (past q.side q.price.value p.value d)
 
 abbrev pub limit_price : Request → Conditions → Result (Unit {0}) Refusal
 limit_price q c = judged_on q (basis q c)

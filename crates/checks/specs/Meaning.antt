@@ -1,7 +1,8 @@
 -- What a check means: its records, its judgement, and what a notice does to them. Assumes nothing.
 -- A check keeps a public record, and a private one for each acronym (a firm). Whom a notice touches and which ones can trip holds
 -- by the definitions below, whatever a check does with them.
-use Rattle.std.specs.Prelude.{◌≡◌, ℕ, suc, ◌≤◌, Bool, true, false, cond, ◌||◌, ◌⊎◌, List, [], ◌∷◌, ◌==◌}
+use Rattle.std.specs.Prelude.{◌≡◌, ℕ, suc, ◌≤◌, Bool, true, false, cond, ◌||◌, ◌⊎◌, List, [], ◌∷◌, Ok, Err, Result, ◌==◌}
+use Rattle.terms.specs.declared.bounded.Bounded.{Bounded}
 use Rattle.terms.specs.declared.messages.Asked.{Asked}
 use Rattle.terms.specs.declared.messages.Causes.{Causes}
 use Rattle.terms.specs.declared.messages.Notice.{Notice}
@@ -18,6 +19,11 @@ pub record Meaning : Type 1 where
   pub public_after : Notice → Pub → Pub
   pub private_after : Notice → Pub → Priv → Priv
   pub causes : Notice → Pub → Priv → Causes
+
+-- the number that a judgement gives: 0 where the entry passes
+abbrev pub turned_down : Result (Unit {0}) (Bounded 41 59) → ℕ
+turned_down (Ok u) = 0
+turned_down (Err n) = n.value
 
 -- Only the numbers of turn-downs are given by a judgement.
 pub record Lawful (m : Meaning) : Type 0 where

@@ -1,5 +1,6 @@
 -- What two checks mean together, the one set before the other. Assumes nothing.
-use Rattle.std.specs.Prelude.{ℕ, cond, List, [], ◌∷◌, ◌==◌}
+use Rattle.std.specs.Prelude.{◌≡◌, ℕ, zero, suc, cond, List, [], ◌∷◌, length, ◌==◌}
+use Rattle.std.proofs.Common.{arith}
 use Rattle.terms.specs.declared.messages.Causes.{Causes}
 use Rattle.checks.specs.Judged.{either_ranged}
 use Rattle.checks.specs.Meaning.{Meaning, Lawful}
@@ -13,6 +14,13 @@ abbrev pub pairs : {X Y : Type 0} → List X → List Y → List (X × Y)
 pairs [] ys = []
 pairs (x ∷ xs) [] = []
 pairs (x ∷ xs) (y ∷ ys) = (x, y) ∷ pairs xs ys
+
+-- which is as long as they are
+pub length_pairs : {X Y : Type 0} (k : ℕ) (xs : List X) (ys : List Y) → length xs ≡ k → length ys ≡ k → length (pairs xs ys) ≡ k
+length_pairs k [] ys h e = h
+length_pairs k (x ∷ xs) [] h e = absurd (omega arith)
+length_pairs zero (x ∷ xs) (y ∷ ys) h e = absurd (omega arith)
+length_pairs (suc k) (x ∷ xs) (y ∷ ys) h e = let z = length_pairs k xs ys (omega arith) (omega arith) in omega arith
 
 -- each cause by the first that is not 0
 abbrev pub first_causes : Causes → Causes → Causes

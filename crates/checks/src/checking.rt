@@ -2,9 +2,9 @@
 
 ghost use Rattle.std.specs.Prelude.{◌≡◌, List, length, replicate};
 ghost use Rattle.terms.specs.Tables.{at};
-ghost use Rattle.checks.specs.Meaning.{Meaning, Lawful, told_public, told_each, told_causes, whose};
+ghost use Rattle.checks.specs.Meaning.{Meaning, Lawful, turned_down, told_public, told_each, told_causes, whose};
 
-use terms::{Asked, Causes, Notice};
+use terms::{Asked, Causes, Notice, TurnDown};
 
 /// A check judges entries on their way in, and is told what happens. Its meaning is worked out on a public record and on a
 /// private record for each of the eight acronyms.
@@ -17,9 +17,9 @@ pub trait Check {
 
     ghost lawful: { Lawful meaning };
 
-    /// 0 where the entry passes, and else the number from 41 to 59 that it is turned down with. Alters nothing.
-    fn judge(&self, asked: Asked) -> u8
-        ensures { result ≡ meaning.judged asked (public self.now) (at (meaning.fresh (public self.now)) (private self.now) asked.acronym) };
+    /// Passes the entry, or says the number that it is turned down with. Alters nothing.
+    fn judge(&self, asked: Asked) -> Result<(), TurnDown>
+        ensures { turned_down result ≡ meaning.judged asked (public self.now) (at (meaning.fresh (public self.now)) (private self.now) asked.acronym) };
 
     /// Brings the records up to date, and answers what trips the login and the acronym that the notice names.
     fn tell(&mut self, notice: Notice) -> Causes
@@ -27,14 +27,13 @@ pub trait Check {
         ensures own { private self.new ≡ told_each meaning 1 notice (public self.old) (private self.old) }
         ensures trips { result ≡ told_causes meaning notice (public self.old) (at (meaning.fresh (public self.old)) (private self.old) (whose notice)) };
 
-    /// There are eight private records. Does nothing.
-    fn facts(&self)
-        ensures { length (private self.now) ≡ 8 };
-
     /// The first records, as for a new gate.
     fn renew(&mut self)
         ensures shown { public self.new ≡ meaning.renewed (public self.old) }
         ensures own { private self.new ≡ replicate 8 (meaning.fresh (public self.old)) };
+
+    // There are eight private records.
+    ghost eight: { (s : Self) → length (private s) ≡ 8 };
 }
 
 /// Nothing trips.

@@ -21,8 +21,8 @@ pub fn judge_price(
 ) -> Result<Judgement, Refusal>
     ensures { result ≡ or_field (judgement request conditions) }
 {
-    let request = Request::from_numbers(request)?;
-    let conditions = Conditions::from_numbers(conditions)?;
+    let request = Request::try_from(request)?;
+    let conditions = Conditions::try_from(conditions)?;
     let basis = basis_of(&request, &conditions);
     let verdict = limit_price(&request, &conditions);
     Ok(Judgement { basis, verdict })

@@ -9,6 +9,7 @@ mod pricing;
 mod puts_calls;
 mod sizing;
 mod tables;
+mod turning;
 mod valuing;
 
 pub use checking::{Check, NO_CAUSE, acronym_of};

@@ -1,10 +1,10 @@
 //! A check set before another, which is again a check.
 
 ghost use Rattle.std.specs.Prelude.{◌≡◌};
-ghost use Rattle.checks.specs.Piled.{first_of, pairs, first_causes, piled, piled_lawful};
+ghost use Rattle.checks.specs.Piled.{first_of, pairs, first_causes, piled, piled_lawful, length_pairs};
 
 use crate::checking::Check;
-use terms::{Asked, Causes, Notice};
+use terms::{Asked, Causes, Notice, TurnDown};
 
 /// A check set before another or before a pile of others.
 #[derive(Drop)]
@@ -39,23 +39,17 @@ impl<A: Check, B: Check> Check for Pile<A, B> {
 
     ghost lawful = { piled_lawful A.Check.lawful B.Check.lawful };
 
-    fn judge(&self, asked: Asked) -> u8 {
-        self.first.facts();
-        self.rest.facts();
-        first_of(self.first.judge(asked), self.rest.judge(asked))
+    ghost eight = { λ s. length_pairs 8 _ _ (A.Check.eight s.first) (B.Check.eight s.rest) };
+
+    fn judge(&self, asked: Asked) -> Result<(), TurnDown> {
+        self.first.judge(asked)?;
+        self.rest.judge(asked)
     }
 
     fn tell(&mut self, notice: Notice) -> Causes {
-        self.first.facts();
-        self.rest.facts();
         let first = self.first.tell(notice);
         let rest = self.rest.tell(notice);
         first_causes(first, rest)
-    }
-
-    fn facts(&self) {
-        self.first.facts();
-        self.rest.facts();
     }
 
     fn renew(&mut self) {

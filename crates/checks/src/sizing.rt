@@ -3,11 +3,13 @@
 ghost use Rattle.std.specs.Prelude.{◌≡◌, length, replicate, ◌==◌};
 ghost use Rattle.terms.specs.declared.kinds.LimitKind.TheVariants.{Size as OfSize};
 ghost use Rattle.terms.specs.Kinds.{limit_kind_number};
+ghost use Rattle.checks.specs.Meaning.{turned_down};
 ghost use Rattle.checks.specs.Sizes.{exceeds as exceeds_by, unlimited, sized, set_for, size_after, size, size_lawful};
 
 use crate::checking::{Check, NO_CAUSE, acronym_of};
 use crate::tables::{place, put_at, read_at};
-use terms::{Asked, Causes, LimitKind, Notice, Refusal, ScopeNumber, Ticket};
+use crate::turning::turn_down;
+use terms::{Asked, Causes, LimitKind, Notice, Refusal, ScopeNumber, Ticket, TurnDown};
 
 /// The size limits of a firm: its own, and those of the logins. 0 is no limit.
 #[derive(Clone, Copy)]
@@ -27,10 +29,7 @@ fn exceeds(limit: u64, contracts: u64) -> bool
 fn is_size(kind: u64) -> bool
     ensures { result ≡ (kind == limit_kind_number OfSize) }
 {
-    match LimitKind::from_number(kind) {
-        Ok(LimitKind::Size) => true,
-        _ => false,
-    }
+    LimitKind::try_from(kind) == Ok(LimitKind::Size)
 }
 
 impl SizeLimits {
@@ -43,14 +42,14 @@ impl SizeLimits {
         }
     }
 
-    fn judge(&self, ticket: &Ticket) -> u8
-        ensures { result ≡ sized ticket.now self.now }
+    fn judge(&self, ticket: &Ticket) -> Result<(), TurnDown>
+        ensures { turned_down result ≡ sized ticket.now self.now }
     {
         let login = read_at(&self.logins, ticket.login, 0);
         if exceeds(self.own, ticket.contracts) || exceeds(login, ticket.contracts) {
-            return Refusal::TooLarge.number();
+            return Err(turn_down(Refusal::TooLarge));
         }
-        0
+        Ok(())
     }
 
     fn set(&mut self, scope: ScopeNumber, limit: u64)
@@ -84,12 +83,8 @@ impl SizeLimits {
 #[derive(Drop)]
 pub struct Size {
     limits: [SizeLimits; 8],
+    ghost eight: { length limits ≡ 8 },
 }
-
-// A record for each acronym. Does nothing.
-fn eight(_limits: &[SizeLimits; 8])
-    ensures { length _limits.now ≡ 8 }
-{}
 
 impl Size {
     /// Without any limit.
@@ -111,24 +106,20 @@ impl Check for Size {
 
     ghost lawful = { size_lawful };
 
-    fn judge(&self, asked: Asked) -> u8 {
-        eight(&self.limits);
+    ghost eight = { λ s. s.eight };
+
+    fn judge(&self, asked: Asked) -> Result<(), TurnDown> {
         match place(asked.acronym, 8) {
             Some(a) => self.limits[a].judge(&asked.ticket),
-            None => 0,
+            None => Ok(()),
         }
     }
 
     fn tell(&mut self, notice: Notice) -> Causes {
-        eight(&self.limits);
         if let Some(a) = place(acronym_of(&notice), 8) {
             self.limits[a].tell(notice);
         }
         NO_CAUSE
-    }
-
-    fn facts(&self) {
-        eight(&self.limits);
     }
 
     fn renew(&mut self) {

@@ -1,7 +1,6 @@
 //! Rules that go by the values of a series, put and call and limit price, as checks.
 
-ghost use Rattle.std.specs.Prelude.{◌≡◌, replicate, None as Absent};
-ghost use Rattle.terms.specs.Refusals.{answer};
+ghost use Rattle.std.specs.Prelude.{◌≡◌, replicate, None as Absent, refl};
 ghost use Rattle.checks.specs.PutAndCall.{put_and_call};
 ghost use Rattle.checks.specs.Known.{Verdict, InRange, request_numbers, case_of, known_after, by_values, by_values_lawful, put_and_call_ranged, limit_price_of, limit_price_ranged};
 
@@ -9,7 +8,8 @@ use crate::checking::{Check, NO_CAUSE};
 use crate::pricing::limit_price;
 use crate::puts_calls::put_and_call;
 use crate::tables::{put_at, read_at};
-use terms::{Asked, Causes, Notice, Refusal, Request, RequestNumbers, Values};
+use crate::turning::turn_down;
+use terms::{Asked, Causes, Notice, Refusal, Request, RequestNumbers, TurnDown, Values};
 
 /// What is known of each series: nothing until its values come.
 #[derive(Drop)]
@@ -37,16 +37,6 @@ fn request_numbers(asked: &Asked) -> RequestNumbers
     }
 }
 
-// The number that a verdict gives, 0 where the entry passes.
-fn number_of(verdict: Result<(), Refusal>) -> u8
-    ensures { result ≡ answer verdict }
-{
-    match verdict {
-        Ok(()) => 0,
-        Err(refusal) => refusal.number(),
-    }
-}
-
 impl Known {
     fn nothing() -> Known
         ensures { result.series ≡ replicate 16 Absent }
@@ -58,12 +48,8 @@ impl Known {
     fn case_of(&self, asked: &Asked) -> Option<Case>
         ensures { result ≡ case_of asked.now self.now.series }
     {
-        let Ok(request) = Request::from_numbers(request_numbers(asked)) else {
-            return None;
-        };
-        let Some(values) = read_at(&self.series, asked.ticket.series, None) else {
-            return None;
-        };
+        let request = Request::try_from(request_numbers(asked)).ok()?;
+        let values = read_at(&self.series, asked.ticket.series, None)?;
         Some(Case { request, values })
     }
 
@@ -71,7 +57,7 @@ impl Known {
         ensures { self.new.series ≡ known_after notice self.old.series }
     {
         if let Notice::Valued { series, values } = notice {
-            put_at(&mut self.series, series, Values::from_numbers(values).ok());
+            put_at(&mut self.series, series, Values::try_from(values).ok());
         }
     }
 
@@ -150,19 +136,21 @@ impl<R: Rule> Check for ByValues<R> {
 
     ghost lawful = { by_values_lawful R.Rule.verdict R.Rule.ranged };
 
-    fn judge(&self, asked: Asked) -> u8 {
-        match self.known.case_of(&asked) {
-            Some(case) => number_of(self.rule.judged(&case.request, &case.values)),
-            None => 0,
-        }
+    ghost eight = { λ s. refl };
+
+    fn judge(&self, asked: Asked) -> Result<(), TurnDown> {
+        let Some(case) = self.known.case_of(&asked) else {
+            return Ok(());
+        };
+        self.rule
+            .judged(&case.request, &case.values)
+            .map_err(turn_down)
     }
 
     fn tell(&mut self, notice: Notice) -> Causes {
         self.known.tell(notice);
         NO_CAUSE
     }
-
-    fn facts(&self) {}
 
     fn renew(&mut self) {
         self.known.renew();

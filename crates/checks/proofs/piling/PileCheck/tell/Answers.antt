@@ -17,7 +17,7 @@ returns g c =
     let q = g.B.Check.public s.rest in
     let xs = g.A.Check.private s.first in
     let ys = g.B.Check.private s.rest in
-    let a = at_pairs xs ys (whose e) (m.fresh p) (n.fresh q) c.facts.ensures c.facts-2.ensures in
+    let a = at_pairs xs ys (whose e) (m.fresh p) (n.fresh q) (g.met.A.Check.eight s.first) (g.met.B.Check.eight s.rest) in
     record {
       shown = ap (λ (x : m.Pub). (x, g.B.Check.public c.tell-rest.new.self)) c.tell-first.ensures.shown ∙ ap (λ (y : n.Pub). (told_public m e p, y)) c.tell-rest.ensures.shown ∙ sym (public_pairs m n e p q);
       own = ap (λ (x : List m.Priv). pairs x (g.B.Check.private c.tell-rest.new.self)) c.tell-first.ensures.own ∙ ap (pairs (told_each m 1 e p xs)) c.tell-rest.ensures.own ∙ sym (each_pairs m n e 1 p q xs ys);

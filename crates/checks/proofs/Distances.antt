@@ -1,9 +1,9 @@
 -- The distances grow with the reference, are at most 400, and class 3 has twice those of class 1. Assumes nothing.
-use Rattle.std.proofs.Common.{◌≡◌, ℕ, zero, suc, ◌+◌, ◌<◌, ◌≤◌, Bool, true, ◌&&◌, T, leb, List, [], ◌∷◌, map, length, get_or, refl, zero-le, le_trans, le_refl, le_of_suc-le-suc, not-suc-le-zero, arith, leb→le}
+use Rattle.std.proofs.Common.{◌≡◌, ℕ, zero, suc, ◌+◌, ◌<◌, ◌≤◌, Bool, true, ◌&&◌, T, leb, List, [], ◌∷◌, map, length, get_or, refl, ap, ◌∙◌, zero-le, le_trans, le_refl, le_of_suc-le-suc, not-suc-le-zero, arith, leb→le}
 use Rattle.terms.specs.declared.kinds.Class.{Class}
 use Rattle.terms.specs.declared.kinds.Class.TheVariants.{One, Two, Three, Four}
 use Rattle.terms.specs.Ranges.{first_test, second_test}
-use Rattle.checks.specs.LimitPrice.{tops, above, band, distances, distance}
+use Rattle.checks.specs.LimitPrice.{tops, above, band, distances, distance, Scaled}
 
 above_mono : (p q : ℕ) (ts : List ℕ) → p ≤ q → above p ts ≤ above q ts
 above_mono p q [] h = zero-le
@@ -39,7 +39,7 @@ all_rise Two = (tt, refl)
 all_rise Three = (tt, refl)
 all_rise Four = (tt, refl)
 
-pub wider : (c : Class) (p q : ℕ) → p ≤ q → distance c p ≤ distance c q
+wider : (c : Class) (p q : ℕ) → p ≤ q → distance c p ≤ distance c q
 wider c p q h =
     let inside : band q < length (distances c) = omega (arith, above_length q tops, (all_rise c).1) in
     rises 0 (distances c) (all_rise c).0 (band p) (band q) (above_mono p q tops h) inside
@@ -49,5 +49,8 @@ twice [] i = refl
 twice (x ∷ xs) zero = refl
 twice (x ∷ xs) (suc i) = twice xs i
 
-pub double : (p : ℕ) → distance Three p ≡ distance One p + distance One p
+double : (p : ℕ) → distance Three p ≡ distance One p + distance One p
 double p = twice (distances One) (band p)
+
+pub scaled : (c : Class) (p d : ℕ) → d ≡ distance c p → Scaled c p d
+scaled c p d e = record { wider = λ q h. rw e (wider c q p h); double = λ one. e ∙ ap (λ k. distance k p) one ∙ double p }

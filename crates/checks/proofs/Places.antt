@@ -1,5 +1,5 @@
 -- Tables numbered from 1: places that are none, and a change at one place alone. Assumes nothing.
-use Rattle.std.proofs.Common.{◌≡◌, ℕ, zero, suc, ◌+◌, ◌<◌, ◌≤◌, List, [], ◌∷◌, length, get_or, set, replicate, sym, refl, ap, ◌∙◌, arith}
+use Rattle.std.proofs.Common.{◌≡◌, ℕ, zero, suc, ◌+◌, ◌<◌, ◌≤◌, List, [], ◌∷◌, length, get_or, set, sym, refl, ap, ◌∙◌, arith}
 use Rattle.std.proofs.lemmas.List.{get_or_past, set_past, get_or_default}
 use Rattle.terms.specs.Tables.{at, put}
 use Rattle.checks.specs.Places.{numbered}
@@ -11,12 +11,6 @@ at_past d xs (suc i) h = get_or_past xs i d (omega arith)
 pub put_past : {X : Type 0} (xs : List X) (n : ℕ) (x : X) → (1 ≤ n → length xs < n) → put xs n x ≡ xs
 put_past xs zero x h = refl
 put_past xs (suc i) x h = set_past xs i x (omega arith)
-
-pub at_replicate : {X : Type 0} (x : X) (k n : ℕ) → at x (replicate k x) n ≡ x
-at_replicate x k zero = refl
-at_replicate x zero (suc i) = refl
-at_replicate x (suc k) (suc zero) = refl
-at_replicate x (suc k) (suc (suc i)) = at_replicate x k (suc i)
 
 -- what is read at the place i is the n-th, whatever stands for none
 pub at_place : {X : Type 0} (d e : X) (xs : List X) (n i : ℕ) → n ≡ suc i → i < length xs → get_or xs i e ≡ at d xs n

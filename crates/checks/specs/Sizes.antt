@@ -1,5 +1,5 @@
 -- Size: what the check keeps, what it judges, and what alters its limits. Assumes nothing.
-use Rattle.std.specs.Prelude.{ℕ, Bool, cond, not, ◌&&◌, ◌||◌, replicate, ◌==◌, nat_lt}
+use Rattle.std.specs.Prelude.{ℕ, Bool, false, cond, ◌||◌, replicate, Some, None, Option, ◌==◌, nat_lt}
 use Rattle.std.proofs.Common.{inr, lit≤}
 use Rattle.terms.specs.declared.kinds.LimitKind.TheVariants as kind
 use Rattle.terms.specs.declared.messages.Notice.{Notice}
@@ -15,16 +15,21 @@ use Rattle.checks.specs.declared.sizing.SizeLimits.{SizeLimits}
 use Rattle.checks.specs.Judged.{either_ranged, zero_ranged}
 use Rattle.checks.specs.Meaning.{Meaning, Lawful, no_cause}
 
--- a limit is set, and lies below the contracts; 0 is no limit
-abbrev pub exceeds : (limit contracts : ℕ) → Bool
-exceeds limit contracts = not (limit == 0) && nat_lt limit contracts
+-- a limit as it is sent: 0 is none
+abbrev pub in_force : (limit : ℕ) → Option ℕ
+in_force limit = cond (limit == 0) None (Some limit)
+
+-- a limit is set, and lies below the contracts
+abbrev pub exceeds : (limit : Option ℕ) → (contracts : ℕ) → Bool
+exceeds None contracts = false
+exceeds (Some limit) contracts = nat_lt limit contracts
 
 -- a firm without any limit
 abbrev pub unlimited : SizeLimits
-unlimited = record { own = 0; logins = replicate 24 0 }
+unlimited = record { own = None; logins = replicate 24 None }
 
-abbrev pub limit_for : (login : ℕ) → SizeLimits → ℕ
-limit_for login q = at 0 q.logins login
+abbrev pub limit_for : (login : ℕ) → SizeLimits → Option ℕ
+limit_for login q = at None q.logins login
 
 abbrev pub too_large : Ticket → SizeLimits → Bool
 too_large t q = exceeds q.own t.contracts || exceeds (limit_for t.login q) t.contracts
@@ -34,7 +39,7 @@ abbrev pub sized : Ticket → SizeLimits → ℕ
 sized t q = cond (too_large t q) (number TooLarge) 0
 
 -- a limit for a scope
-abbrev pub set_for : ScopeNumber → (limit : ℕ) → SizeLimits → SizeLimits
+abbrev pub set_for : ScopeNumber → (limit : Option ℕ) → SizeLimits → SizeLimits
 set_for (Login l) n q = record { own = q.own; logins = put q.logins l n }
 set_for (Acronym a) n q = record { own = n; logins = q.logins }
 
@@ -42,9 +47,9 @@ set_for (Acronym a) n q = record { own = n; logins = q.logins }
 abbrev pub size_after : Notice → SizeLimits → SizeLimits
 size_after (Ticked t) q = q
 size_after (Valued s v) q = q
-size_after (Opened a l r c) q = set_for (Login l) 0 q
-size_after (Closed a l) q = set_for (Login l) 0 q
-size_after (Limited a x) q = cond (x.kind == limit_kind_number kind.Size) (set_for x.scope x.limit q) q
+size_after (Opened a l r c) q = set_for (Login l) None q
+size_after (Closed a l) q = set_for (Login l) None q
+size_after (Limited a x) q = cond (x.kind == limit_kind_number kind.Size) (set_for x.scope (in_force x.limit) q) q
 size_after (Released a s) q = q
 size_after (Entered k) q = q
 size_after (TurnedDown k n) q = q

@@ -36,24 +36,24 @@ pub trait Check {
     ghost eight: { (s : Self) → length (private s) ≡ 8 };
 }
 
-/// Nothing trips.
+/// Nothing trips. Causes are plain numbers, where 0 is no trip, as they are sent and as the meaning has them.
 pub const NO_CAUSE: Causes = Causes {
     login: 0,
     acronym: 0,
 };
 
-/// The acronym that a notice names, 0 where it is everybody's.
+/// The acronym that a notice names, 0 where it is everybody's. A number, since it is looked up in tables numbered from 1, where 0 reads as
+/// absent: with an `Option` each who looks it up would have to say that once more.
 pub fn acronym_of(notice: &Notice) -> u64
     ensures { result ≡ whose notice.now }
 {
     match notice {
         Notice::Ticked { .. } | Notice::Valued { .. } => 0,
-        Notice::Opened { acronym, .. } => *acronym,
-        Notice::Closed { acronym, .. } => *acronym,
-        Notice::Limited { acronym, .. } => *acronym,
-        Notice::Released { acronym, .. } => *acronym,
-        Notice::Entered { asked } => asked.acronym,
-        Notice::TurnedDown { asked, .. } => asked.acronym,
-        Notice::Filled { acronym, .. } => *acronym,
+        Notice::Opened { acronym, .. }
+        | Notice::Closed { acronym, .. }
+        | Notice::Limited { acronym, .. }
+        | Notice::Released { acronym, .. }
+        | Notice::Filled { acronym, .. } => *acronym,
+        Notice::Entered { asked } | Notice::TurnedDown { asked, .. } => asked.acronym,
     }
 }

@@ -8,7 +8,7 @@ use crate::pricing::{Basis, basis_of, limit_price};
 use terms::{ConditionNumbers, Conditions, Refusal, Request, RequestNumbers};
 
 /// What a request was judged by, and how.
-#[derive(Clone, Copy)]
+#[derive(Clone, Copy, Debug, PartialEq, Eq)]
 pub struct Judgement {
     pub basis: Basis,
     pub verdict: Result<(), Refusal>,

@@ -13,7 +13,7 @@ pub struct Pile<A, B> {
     pub rest: B,
 }
 
-// The first of two numbers that is not 0.
+// The first of two causes that is not 0. Causes are plain numbers, as they are sent and as the meaning has them.
 fn first_of(a: u8, b: u8) -> u8
     ensures { result ≡ first_of a b }
 {
@@ -41,11 +41,13 @@ impl<A: Check, B: Check> Check for Pile<A, B> {
 
     ghost eight = { λ s. length_pairs 8 _ _ (A.Check.eight s.first) (B.Check.eight s.rest) };
 
+    #[tactic(auto, using(crate::proofs::Pairs::judged_first, crate::proofs::Pairs::judged_rest))]
     fn judge(&self, asked: Asked) -> Result<(), TurnDown> {
         self.first.judge(asked)?;
         self.rest.judge(asked)
     }
 
+    #[tactic(auto, using(crate::proofs::Pairs::shown_both, crate::proofs::Pairs::own_both, crate::proofs::Pairs::trips_both))]
     fn tell(&mut self, notice: Notice) -> Causes {
         let first = self.first.tell(notice);
         let rest = self.rest.tell(notice);

@@ -20,13 +20,8 @@ pub fn put_and_call(request: &Request, values: &Values) -> Result<(), Refusal>
     ensures value { result ≡ put_and_call request.now values.now }
     ensures ceiled { Ceiled request.now values.now result }
 {
-    let Side::Buy = request.side else {
-        return Ok(());
-    };
-    let Some(ceiling) = ceiling(values) else {
-        return Ok(());
-    };
-    if request.price.number() >= ceiling.number() {
+    let reaches = |ceiling| request.price >= ceiling;
+    if request.side == Side::Buy && ceiling(values).is_some_and(reaches) {
         return Err(Refusal::PutAndCall);
     }
     Ok(())

@@ -4,25 +4,32 @@ ghost use Rattle.std.specs.Prelude.{◌≡◌, length, replicate, ◌==◌};
 ghost use Rattle.terms.specs.declared.kinds.LimitKind.TheVariants.{Size as OfSize};
 ghost use Rattle.terms.specs.Kinds.{limit_kind_number};
 ghost use Rattle.checks.specs.Meaning.{turned_down};
-ghost use Rattle.checks.specs.Sizes.{exceeds as exceeds_by, unlimited, sized, set_for, size_after, size, size_lawful};
+ghost use Rattle.checks.specs.Sizes.{exceeds as exceeds_by, in_force, unlimited, sized, set_for, size_after, size, size_lawful};
 
 use crate::checking::{Check, NO_CAUSE, acronym_of};
 use crate::tables::{place, put_at, read_at};
 use crate::turning::turn_down;
 use terms::{Asked, Causes, LimitKind, Notice, Refusal, ScopeNumber, Ticket, TurnDown};
 
-/// The size limits of a firm: its own, and those of the logins. 0 is no limit.
-#[derive(Clone, Copy)]
+/// The size limits of a firm: its own, and those of the logins.
+#[derive(Clone, Copy, Debug, PartialEq, Eq)]
 pub struct SizeLimits {
-    own: u64,
-    logins: [u64; 24],
+    own: Option<u64>,
+    logins: [Option<u64>; 24],
 }
 
 // Whether a limit is set, and lies below the contracts.
-fn exceeds(limit: u64, contracts: u64) -> bool
+fn exceeds(limit: Option<u64>, contracts: u64) -> bool
     ensures { result ≡ exceeds_by limit contracts }
 {
-    limit != 0 && contracts > limit
+    limit.is_some_and(|limit| contracts > limit)
+}
+
+// A limit as it is sent: 0 is none.
+fn in_force(limit: u64) -> Option<u64>
+    ensures { result ≡ in_force limit }
+{
+    (limit != 0).then_some(limit)
 }
 
 // Whether a limit of this kind is one of size.
@@ -37,22 +44,22 @@ impl SizeLimits {
         ensures { result ≡ unlimited }
     {
         SizeLimits {
-            own: 0,
-            logins: [0; 24],
+            own: None,
+            logins: [None; 24],
         }
     }
 
     fn judge(&self, ticket: &Ticket) -> Result<(), TurnDown>
         ensures { turned_down result ≡ sized ticket.now self.now }
     {
-        let login = read_at(&self.logins, ticket.login, 0);
+        let login = read_at(&self.logins, ticket.login, None);
         if exceeds(self.own, ticket.contracts) || exceeds(login, ticket.contracts) {
             return Err(turn_down(Refusal::TooLarge));
         }
         Ok(())
     }
 
-    fn set(&mut self, scope: ScopeNumber, limit: u64)
+    fn set(&mut self, scope: ScopeNumber, limit: Option<u64>)
         ensures { self.new ≡ set_for scope limit self.old }
     {
         match scope {
@@ -67,12 +74,10 @@ impl SizeLimits {
     {
         match notice {
             Notice::Opened { login, .. } | Notice::Closed { login, .. } => {
-                self.set(ScopeNumber::Login(login), 0);
+                self.set(ScopeNumber::Login(login), None);
             }
-            Notice::Limited { limit, .. } => {
-                if is_size(limit.kind) {
-                    self.set(limit.scope, limit.limit);
-                }
+            Notice::Limited { limit, .. } if is_size(limit.kind) => {
+                self.set(limit.scope, in_force(limit.limit));
             }
             _ => {}
         }
@@ -108,6 +113,7 @@ impl Check for Size {
 
     ghost eight = { λ s. s.eight };
 
+    #[tactic(auto, using(crate::proofs::Limits::sized_at, crate::proofs::Limits::sized_past))]
     fn judge(&self, asked: Asked) -> Result<(), TurnDown> {
         match place(asked.acronym, 8) {
             Some(a) => self.limits[a].judge(&asked.ticket),
@@ -115,6 +121,7 @@ impl Check for Size {
         }
     }
 
+    #[tactic(auto, using(crate::proofs::Limits::told_here, crate::proofs::Limits::told_none, crate::proofs::Told::same_either))]
     fn tell(&mut self, notice: Notice) -> Causes {
         if let Some(a) = place(acronym_of(&notice), 8) {
             self.limits[a].tell(notice);

@@ -18,13 +18,13 @@ pub struct Known {
 }
 
 /// An entry with the values of its series.
-#[derive(Clone, Copy)]
+#[derive(Clone, Copy, Debug, PartialEq, Eq)]
 pub struct Case {
     request: Request,
     values: Values,
 }
 
-// What an entry asks for, with the role of its login.
+// What an entry asks for, with the role of its login. A function, since neither type is of this crate, whose own `From` it could be.
 fn request_numbers(asked: &Asked) -> RequestNumbers
     ensures { result ≡ request_numbers asked.now }
 {
@@ -80,7 +80,7 @@ pub trait Rule {
 }
 
 /// Put and call: 42 for a buy that pays as much as the option can ever bring.
-#[derive(Clone, Copy)]
+#[derive(Clone, Copy, Debug, PartialEq, Eq)]
 pub struct PutAndCall;
 
 impl Rule for PutAndCall {
@@ -94,7 +94,7 @@ impl Rule for PutAndCall {
 }
 
 /// Limit price: 43 for an order that is priced too far through its reference.
-#[derive(Clone, Copy)]
+#[derive(Clone, Copy, Debug, PartialEq, Eq)]
 pub struct LimitPrice;
 
 impl Rule for LimitPrice {

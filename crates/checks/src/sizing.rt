@@ -36,7 +36,10 @@ fn in_force(limit: u64) -> Option<u64>
 fn is_size(kind: u64) -> bool
     ensures { result ≡ (kind == limit_kind_number OfSize) }
 {
-    LimitKind::try_from(kind) == Ok(LimitKind::Size)
+    match LimitKind::try_from(kind) {
+        Ok(LimitKind::Size) => true,
+        _ => false,
+    }
 }
 
 impl SizeLimits {

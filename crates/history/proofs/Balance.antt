@@ -2,8 +2,8 @@
 -- Assumes nothing.
 use Rattle.std.proofs.Common.{◌≡◌, ℕ, ◌+◌, Bool, true, false, cond, ◌&&◌, eqb, List, [], ◌∷◌, ◌++◌, replicate, Some, None, Ok, Err, Option, Result, sym, refl, ap, ◌∙◌, subst, arith}
 use Rattle.std.proofs.lemmas.Bool.{and_parts, eqb-true}
+use Rattle.terms.specs.Entered.{entered_number, entered_effect}
 use Rattle.terms.specs.Answers.{given, is_ok, ok_or0, unless}
-use Rattle.terms.specs.Refusals.{number}
 use Rattle.terms.specs.Tables.{at, put}
 use Rattle.terms.specs.declared.events.EnterAnswer.{EnterAnswer}
 use Rattle.terms.specs.declared.events.Event.{Event}
@@ -21,14 +21,13 @@ use Rattle.market.proofs.Once.{Once}
 use Rattle.checks.specs.Meaning.{Meaning}
 use Rattle.history.specs.Acts.{Act, Answer, Cancel, Enter, Kill, Limit, Moment, Open, PutBack, Receipt, Release, Retire, Take, Tick, Values, act, moment, strike, told}
 use Rattle.history.specs.Calls.{done, in_kill, is_oldest, kill_cause, next, refusal, reply}
-use Rattle.history.specs.Entering.{Verdict, asked, cannot_rest, enter_reply, holds_on, judged_of, rests, turned, verdict, verdict_answer, verdict_leaves, with_entry}
+use Rattle.history.specs.Entering.{Verdict, asked, cannot_rest, enter_reply, judged_of, rests, turned, verdict, verdict_answer, verdict_leaves, with_entry}
 use Rattle.history.specs.Part.{Item, accepted, belongs, has, has_scope, only_if, own, own_call, own_side, share}
 use Rattle.history.specs.Promises.{Balance}
 use Rattle.history.specs.Scopes.{hold_scope, lift_scope, shut}
 use Rattle.history.specs.State.{Row, State, blank, is_leaving, new_gate, nothing_waits, opened, receipted_row, row, with_book, with_out}
 use Rattle.history.specs.Step.{Allowed, Happens, after, reached}
 use Rattle.history.specs.Tally.{accepted_by, cancelled, cancelled_by, on_slips, receipted_by, summed, waiting_contracts}
-use Rattle.history.specs.Trips.{no_effect}
 use Rattle.history.proofs.Accepted.{enter_ok, kill_ok, open_ok, receipt_ok, release_ok, retire_ok, shut_ok, take_ok}
 use Rattle.history.proofs.Lasting.{once_reached}
 use Rattle.history.proofs.Moving.{free_moves, in_market, noticed_moves, off_moves, rest_moves, retire_moves, row_moves, scope_own, slips_moves, struck_moves, zero_if, zero_ifs}
@@ -111,18 +110,18 @@ module _ (m : Meaning) (a : ℕ) where
   -- ---- enter
 
   abbrev EnterMoved : State m → State m → Ticket → EnterAnswer → Type 0
-  EnterMoved s d t r = Moved s d (has a s t.login) (cond (eqb r.number 0) t.contracts 0) (cond (eqb r.number 0) 0 0)
-      r.effect.cancelled
+  EnterMoved s d t r = Moved s d (has a s t.login) (cond (eqb (entered_number r) 0) t.contracts 0) (cond (eqb (entered_number r) 0) 0 0)
+      (entered_effect r).cancelled
 
   -- a number other than 0
-  turned_down : (s d : State m) (t : Ticket) (r : EnterAnswer) → eqb r.number 0 ≡ false
-      → in_market m a d + cond (has a s t.login) r.effect.cancelled 0 ≡ in_market m a s → EnterMoved s d t r
+  turned_down : (s d : State m) (t : Ticket) (r : EnterAnswer) → eqb (entered_number r) 0 ≡ false
+      → in_market m a d + cond (has a s t.login) (entered_effect r).cancelled 0 ≡ in_market m a s → EnterMoved s d t r
   turned_down s d t r e h = rw e (go (in_market m a s) (in_market m a d) _ _ h (zero_if (has a s t.login)))
     where
       go : (w v x z : ℕ) → v + z ≡ w → x ≡ 0 → w + x ≡ (v + x) + z
       go w v x z e f = omega arith
 
-  refused_entry : (s : State m) (t : Ticket) (r : EnterAnswer) → eqb r.number 0 ≡ false → r.effect.cancelled ≡ 0 → EnterMoved s s t r
+  refused_entry : (s : State m) (t : Ticket) (r : EnterAnswer) → eqb (entered_number r) 0 ≡ false → (entered_effect r).cancelled ≡ 0 → EnterMoved s s t r
   refused_entry s t r e z = turned_down s s t r e
       (ap (λ (n : ℕ). in_market m a s + cond (has a s t.login) n 0) z ∙ go (in_market m a s) _ (zero_if (has a s t.login)))
     where
@@ -148,11 +147,7 @@ module _ (m : Meaning) (a : ℕ) where
   enter_moves : (s : State m) (t : Ticket) → Sound m s → (o : Option Refusal) → refusal s (Enter t) ≡ o
       → EnterMoved s (unless o s (done s (Enter t))) t (enter_reply t s o)
   enter_moves s t k None e = verdict_moves s t k e (verdict s t) refl
-  enter_moves s t k (Some x) e = refused_entry s t (enter_reply t s (Some x)) (number_some x) (none (eqb (number x) 21))
-    where
-      none : (b : Bool) → (cond b (record { causes = holds_on s t.login; cancelled = 0 }) no_effect).cancelled ≡ 0
-      none true = refl
-      none false = refl
+  enter_moves s t k (Some x) e = refused_entry s t (enter_reply t s (Some x)) (number_some x) refl
 
   -- ---- holds move nothing
 

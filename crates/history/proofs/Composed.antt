@@ -2,7 +2,7 @@
 use Rattle.std.proofs.Common.{◌≡◌, ℕ, length, Some, None, Ok, Err, Option, sym, refl, ap, ◌∙◌, ap₂, ⊎_elim}
 use Rattle.std.proofs.lemmas.Bool.Decides.{eqb_tells}
 use Rattle.terms.specs.Answers.{given, unless}
-use Rattle.terms.specs.Refusals.{number}
+use Rattle.terms.specs.declared.events.EnterAnswer.TheVariants as answer
 use Rattle.terms.specs.declared.events.Effect.{Effect}
 use Rattle.terms.specs.declared.events.EnterAnswer.{EnterAnswer}
 use Rattle.terms.specs.declared.events.Event.TheVariants as event
@@ -17,7 +17,7 @@ use Rattle.terms.proofs.Answers.{given_err, given_ok}
 use Rattle.market.specs.Book.{Book, Trade, totals}
 use Rattle.market.specs.Market.{Struck, Rested, buy_side, rest_refusal, rested, sell_side}
 use Rattle.market.specs.Sweeps.{swept_sum, swept_up_to}
-use Rattle.checks.specs.Meaning.{Meaning}
+use Rattle.checks.specs.Meaning.{Meaning, no_cause}
 use Rattle.history.specs.Acts.{Enter, Kill, amount, entered}
 use Rattle.history.specs.Calls.{done, in_kill, kill_cause, refusal}
 use Rattle.history.specs.Entering.{Verdict, asked, cannot_rest, enter_reply, entry_of, judged_of, rests, turned, verdict, verdict_answer, verdict_leaves, verdict_of}
@@ -26,7 +26,7 @@ use Rattle.history.specs.Scopes.{hold_scope}
 use Rattle.history.specs.State.{State, row, with_book}
 use Rattle.history.specs.Step.{Step}
 use Rattle.history.specs.Strikes.{fill_effect, fill_told}
-use Rattle.history.specs.Trips.{causes_of, effect_of, in_trip, no_effect, noticed, tell, trip}
+use Rattle.history.specs.Trips.{causes_of, effect_of, in_trip, noticed, tell, trip}
 use Rattle.history.proofs.Laws.{sweeps_by_login}
 
 module _ (m : Meaning) where
@@ -92,17 +92,17 @@ module _ (m : Meaning) where
 
     pub enter_turned :
         (x : Effect) → (judged_of s t ≡ 0 → ⊥) → x ≡ effect_of t.login (TurnedDown (asked s t) (judged_of s t)) s
-        → s₁ ≡ noticed t.login (TurnedDown (asked s t) (judged_of s t)) s → Step s (event.Enter t (record { number = judged_of s t; effect = x })) s₁
+        → s₁ ≡ noticed t.login (TurnedDown (asked s t) (judged_of s t)) s → Step s (event.Enter t (answer.TurnedDown (judged_of s t) x)) s₁
     enter_turned x not-0 effect after =
         by_verdict _ (turned (judged_of s t)) (⊎_elim (λ p. absurd (not-0 p.1)) (λ p. rw p.0) (eqb_tells (judged_of s t) 0))
-        (ap (λ (y : Effect). record { number = judged_of s t; effect = y }) effect) after
+        (ap (answer.TurnedDown (judged_of s t)) effect) after
 
     passes : (o : Option Refusal) → judged_of s t ≡ 0 → rest_refusal s.book (entry_of t) ≡ o → verdict s t ≡ verdict_of 0 o
     passes o is_0 h = ap₂ verdict_of is_0 h
 
     pub enter_cannot_rest :
         (f : Refusal) (b : Book) → judged_of s t ≡ 0 → Rested s.book t.series (entry_of t) (Err f) b → s₁ ≡ with_book b s
-        → Step s (event.Enter t (record { number = number f; effect = no_effect })) s₁
+        → Step s (event.Enter t (answer.Refused f no_cause)) s₁
     enter_cannot_rest f b is_0 rest after =
         let o = given_err (rest_refusal s.book (entry_of t)) tt f (sym rest.0) in
         by_verdict _ (cannot_rest f) (passes (Some f) is_0 o) refl
@@ -113,11 +113,11 @@ module _ (m : Meaning) where
     pub enter_rests :
         (x : Effect) (b : Book) → judged_of s t ≡ 0 → Rested s.book t.series (entry_of t) (Ok tt) b
         → x ≡ effect_of t.login (Entered (asked s t)) (with_book b s) → s₁ ≡ noticed t.login (Entered (asked s t)) (with_book b s)
-        → Step s (event.Enter t (record { number = 0; effect = x })) s₁
+        → Step s (event.Enter t (answer.Accepted x)) s₁
     enter_rests x b is_0 rest effect after =
         let o = given_ok (rest_refusal s.book (entry_of t)) tt tt (sym rest.0) in
         let st = ap (λ (y : Book). with_book y s)
         (rest.1 ∙ ap (λ (y : Option Refusal). unless y s.book (rested s.book t.series (entry_of t))) o) in
         by_verdict _ rests (passes None is_0 o)
-        (ap (λ (y : Effect). record { number = 0; effect = y }) (effect ∙ ap (effect_of t.login (Entered (asked s t))) st))
+        (ap answer.Accepted (effect ∙ ap (effect_of t.login (Entered (asked s t))) st))
         (after ∙ ap (noticed t.login (Entered (asked s t))) st)

@@ -1,6 +1,7 @@
 -- Holds: an entry with good fields, of an open login, in a series with values is answered 21 exactly when its login or its acronym is held by
 -- the events. Assumes nothing.
 use Rattle.std.proofs.Common.{◌≡◌, ℕ, Bool, true, false, cond, not, ◌||◌, leb, ◌↔◌, Some, None, sym, refl, ap, ◌∙◌, arith}
+use Rattle.terms.specs.Entered.{entered_number}
 use Rattle.terms.specs.Refusals.{number}
 use Rattle.terms.specs.Tables.{any_of, at}
 use Rattle.terms.specs.declared.events.EnterAnswer.{EnterAnswer}
@@ -35,7 +36,7 @@ module _ (m : Meaning) where
       go false false k n = let z : ◌≡◌ {A = ℕ} 0 1 = cc in omega arith
 
   module _ (lawful : Lawful m) where
-    answer_21 : (s : State m) (t : Ticket) (v : Verdict) → verdict s t ≡ v → (verdict_answer t s v).number ≡ 21 → ⊥
+    answer_21 : (s : State m) (t : Ticket) (v : Verdict) → verdict s t ≡ v → entered_number (verdict_answer t s v) ≡ 21 → ⊥
     answer_21 s t (turned n) e q = let r = not_21 m lawful s t n e in omega (arith, r.0, q)
     answer_21 s t (cannot_rest x) e q = rest_number s.book t x (cannot_rest_so (judged_of s t) _ x e) q
     answer_21 s t rests e q = let w : ◌≡◌ {A = ℕ} 0 21 = q in omega arith
@@ -43,8 +44,8 @@ module _ (m : Meaning) where
     -- what comes once the fields are good, the login is open and the series has values
     by_hold :
         (s : State m) (t : Ticket) (good op valued held : Bool) → good ≡ true → op ≡ true → valued ≡ true
-        → ((enter_reply t s (cond (not good) (Some Field)
-        (cond (not op) (Some NotOpen) (cond (not valued) (Some NoValues) (cond held (Some Held) None))))).number ≡ 21) ↔ (held ≡ true)
+        → (entered_number (enter_reply t s (cond (not good) (Some Field)
+        (cond (not op) (Some NotOpen) (cond (not valued) (Some NoValues) (cond held (Some Held) None))))) ≡ 21) ↔ (held ≡ true)
     by_hold s t good op valued true b o v = rw (b, o, v) (λ _. refl, λ _. refl)
     by_hold s t good op valued false b o v = rw (b, o, v) (λ q. never _ (answer_21 s t (verdict s t) refl q), λ q. mixed _ (sym q))
 
@@ -68,7 +69,7 @@ module _ (m : Meaning) where
         let is : r ≡ enter_reply t s (refusal s (Enter t)) = inside_entered r _ run.1 in
         let x = by_hold s t (good_ticket t) (is_open (row s t.login)) (at false s.valued t.series)
         (is_held s t.login) good open_is (k.series t.series ∙ valued) in
-        (λ q. sym held ∙ x.0 (sym (ap (λ (e : EnterAnswer). e.number) is) ∙ q), λ q. ap (λ (e : EnterAnswer). e.number) is ∙ x.1 (held ∙ q))
+        (λ q. sym held ∙ x.0 (sym (ap entered_number is) ∙ q), λ q. ap entered_number is ∙ x.1 (held ∙ q))
       where
         both : (a b c d : Bool) → a ≡ c → b ≡ d → (a || b) ≡ (c || d)
         both a b c d e f = rw (e, f)

@@ -1,6 +1,7 @@
 -- Along every run a gate knows what the events tell. Assumes nothing.
 use Rattle.std.proofs.Common.{◌≡◌, ℕ, ◌≤◌, Bool, true, false, cond, ◌&&◌, ◌||◌, eqb, List, [], ◌∷◌, ◌++◌, Some, None, Ok, Err, Option, Result, sym, refl, ap, ◌∙◌, subst, ⊎_elim, append-nil, arith}
 use Rattle.std.proofs.lemmas.Bool.{eq-eqb, ne_eqb}
+use Rattle.terms.specs.Entered.{entered_number, entered_effect}
 use Rattle.terms.specs.Answers.{given, is_ok, unless}
 use Rattle.terms.specs.Refusals.{number}
 use Rattle.terms.specs.Tables.{at}
@@ -25,7 +26,7 @@ use Rattle.history.specs.Scopes.{lift_scope}
 use Rattle.history.specs.State.{Row, State, blank, is_leaving, is_open, nothing_waits, nonzero, opened, receipted_row, retired_row, row, with_book, with_out}
 use Rattle.history.specs.Step.{Allowed, Happens, after, reached}
 use Rattle.history.specs.Strikes.{fill_notice, fill_told, traded_state}
-use Rattle.history.specs.Trips.{causes_of, no_effect, tell}
+use Rattle.history.specs.Trips.{causes_of, tell}
 use Rattle.history.proofs.Accepted.{enter_ok, kill_ok, open_ok, receipt_ok, release_ok, retire_ok, take_ok, value_ok}
 use Rattle.history.proofs.Known.{Done, Known, firm_of, held_scope, here, known_book, known_noticed, known_row, known_told, lifted_scope, not_here}
 use Rattle.history.proofs.Rows.{open_leaving, retired_shut}
@@ -193,7 +194,7 @@ module _ (m : Meaning) where
 
   -- what the answer to enter says
   abbrev entry_says : (ℕ → ℕ) → ℕ → EnterAnswer → ScopeNumber → Bool → Bool
-  entry_says F l r x h = all_said (cond (eqb r.number 21) [] (trip_words F l r.effect.causes)) x h
+  entry_says F l r x h = all_said (cond (eqb (entered_number r) 21) [] (trip_words F l (entered_effect r).causes)) x h
 
   known_entry :
       (s : State m) (F : ℕ → ℕ) (V : ℕ → Bool) (H : ScopeNumber → Bool) (t : Ticket) (r : EnterAnswer)
@@ -201,8 +202,8 @@ module _ (m : Meaning) where
       → Known m s (λ l. firm_after (act (Enter t) (entered r)) l (F l)) (λ n. values_after (act (Enter t) (entered r)) n (V n))
       (λ x. all_said (says F (act (Enter t) (entered r))) x (H x))
   known_entry s F V H t r k =
-      known_ext s F _ V _ _ _ k (λ l. same_both (eqb r.number 0) (F l)) (λ n. and_none (eqb r.number 0) (V n))
-      (λ x. nothing_said (eqb r.number 0) _ x (H x))
+      known_ext s F _ V _ _ _ k (λ l. same_both (eqb (entered_number r) 0) (F l)) (λ n. and_none (eqb (entered_number r) 0) (V n))
+      (λ x. nothing_said (eqb (entered_number r) 0) _ x (H x))
 
   module _ (lawful : Lawful m) where
     pub not_21 : (s : State m) (t : Ticket) (n : ℕ) → verdict s t ≡ turned n → (41 ≤ n) × (n ≤ 59)
@@ -236,7 +237,7 @@ module _ (m : Meaning) where
       where
         by : (b : Bool) (y : ScopeNumber)
             → H y ≡ all_said (cond b [] (trip_words F t.login
-            (cond b (record { causes = holds_on s t.login; cancelled = 0 }) no_effect).causes)) y (H y)
+            (cond b (holds_on s t.login) no_cause))) y (H y)
         by true y = refl
         by false y = quiet F t.login y (H y)
 

@@ -2,6 +2,7 @@
 use Rattle.std.proofs.Common.{◌≡◌, ℕ, ◌<◌, ◌≤◌, Bool, true, false, cond, ◌&&◌, ◌||◌, eqb, ◌⊎◌, List, [], ◌∷◌, length, Some, None, Ok, Err, Option, Result, sym, refl, ap, ◌∙◌, subst, inr, arith}
 use mathlib.Core.Path.{fun_ext}
 use Rattle.std.proofs.lemmas.Bool.{eq-eqb}
+use Rattle.terms.specs.Entered.{entered_number, entered_effect}
 use Rattle.terms.specs.Answers.{given, unless}
 use Rattle.terms.specs.Refusals.{number}
 use Rattle.terms.specs.declared.events.EnterAnswer.{EnterAnswer}
@@ -95,15 +96,15 @@ module _ (m : Meaning) where
       go None e q = (sound_reached m p room h t.0).table.waits l (open_ok m (reached m p room h) l a role reach e).3
 
   rests_or_cancelled :
-      (p : m.Pub) (room : ℕ) (h : List Event) (t : Ticket) (r : EnterAnswer) → Happens m p room (event.Enter t r ∷ h) → r.number ≡ 0
-      → (any_in (is_for t.login t.number) (reached m p room (event.Enter t r ∷ h)).book.resting ≡ true) ⊎ (t.contracts ≤ r.effect.cancelled)
+      (p : m.Pub) (room : ℕ) (h : List Event) (t : Ticket) (r : EnterAnswer) → Happens m p room (event.Enter t r ∷ h) → entered_number r ≡ 0
+      → (any_in (is_for t.login t.number) (reached m p room (event.Enter t r ∷ h)).book.resting ≡ true) ⊎ (t.contracts ≤ (entered_effect r).cancelled)
   rests_or_cancelled p room h t r k zero-so = by_refusal (refusal s (Enter t)) refl (inside_entered r _ k.1)
     where
       s : State m
       s = reached m p room h
 
       LeftOf : State m → EnterAnswer → Type 0
-      LeftOf u x = (any_in (is_for t.login t.number) u.book.resting ≡ true) ⊎ (t.contracts ≤ x.effect.cancelled)
+      LeftOf u x = (any_in (is_for t.login t.number) u.book.resting ≡ true) ⊎ (t.contracts ≤ (entered_effect x).cancelled)
 
       inside_entered : (x y : EnterAnswer) → entered x ≡ entered y → x ≡ y
       inside_entered x y e = cc
@@ -112,8 +113,8 @@ module _ (m : Meaning) where
       not_zero n e q A = mixed A (sym (eq-eqb n 0 q) ∙ e)
 
       by_verdict : (v : Verdict) → verdict s t ≡ v → refusal s (Enter t) ≡ None → r ≡ verdict_answer t s v → LeftOf (verdict_leaves t s v) r
-      by_verdict (turned n) e o q = not_zero n (turned_some (judged_of s t) _ n e) (sym (ap (λ (x : EnterAnswer). x.number) q) ∙ zero-so) _
-      by_verdict (cannot_rest x) e o q = not_zero (number x) (number_some x) (sym (ap (λ (y : EnterAnswer). y.number) q) ∙ zero-so) _
+      by_verdict (turned n) e o q = not_zero n (turned_some (judged_of s t) _ n e) (sym (ap entered_number q) ∙ zero-so) _
+      by_verdict (cannot_rest x) e o q = not_zero (number x) (number_some x) (sym (ap entered_number q) ∙ zero-so) _
       by_verdict rests e o q =
           let f = enter_ok m s t o in
           subst (λ (y : EnterAnswer). LeftOf (verdict_leaves t s rests) y) (sym q)
@@ -122,7 +123,7 @@ module _ (m : Meaning) where
           (and_so _ _ (eq-eqb t.login t.login refl) (eq-eqb t.number t.number refl)))
 
       by_refusal : (o : Option Refusal) → refusal s (Enter t) ≡ o → r ≡ enter_reply t s o → LeftOf (unless o s (done s (Enter t))) r
-      by_refusal (Some x) e q = not_zero (number x) (number_some x) (sym (ap (λ (y : EnterAnswer). y.number) q) ∙ zero-so) _
+      by_refusal (Some x) e q = not_zero (number x) (number_some x) (sym (ap entered_number q) ∙ zero-so) _
       by_refusal None e q = by_verdict (verdict s t) refl e q
 
   pub call_laws : CallLaws m

@@ -4,6 +4,7 @@ use Rattle.std.proofs.Common.{◌≡◌, ℕ, ◌≤◌, Bool, true, false, cond
 use Rattle.std.specs.List.{AllByRecursion}
 use Rattle.std.proofs.lemmas.Bool.{and_parts, eq-eqb, eqb-true, ne_eqb}
 use Rattle.std.proofs.lemmas.Bool.Decides.{eqb_tells}
+use Rattle.terms.specs.Entered.{entered_number}
 use Rattle.terms.specs.Answers.{given, is_ok, unless}
 use Rattle.terms.specs.Tables.{any_of, at}
 use Rattle.terms.specs.declared.events.Event.TheVariants as event
@@ -120,7 +121,7 @@ module _ (m : Meaning) where
   KeptIn s A = Kept s.book A
 
   kept_enter : (s : State m) (t : Ticket) (A : ℕ → List Ticket) (v : Verdict) → verdict s t ≡ v → KeptIn s A
-      → KeptIn (verdict_leaves t s v) (λ l. cond (eqb (verdict_answer t s v).number 0) (notes (Enter t) l (A l)) (A l))
+      → KeptIn (verdict_leaves t s v) (λ l. cond (eqb (entered_number (verdict_answer t s v)) 0) (notes (Enter t) l (A l)) (A l))
   kept_enter s t A (turned n) e k = rw (turned_some (judged_of s t) _ n e) (kept_off s.book A _ k)
   kept_enter s t A (cannot_rest x) e k = rw (number_some x) k
   kept_enter s t A rests e k = kept_off _ _ _ (kept_rest s.book _ t.series (entry_of t) new (kept_more s.book A t k))
@@ -184,7 +185,7 @@ module _ (m : Meaning) where
   refused_or_done (Some y) x s d A A' k h = k
 
   kept_entry : (s : State m) (t : Ticket) (A : ℕ → List Ticket) → KeptIn s A → (o : Option Refusal) → refusal s (Enter t) ≡ o
-      → KeptIn (unless o s (done s (Enter t))) (λ l. cond (eqb (enter_reply t s o).number 0) (notes (Enter t) l (A l)) (A l))
+      → KeptIn (unless o s (done s (Enter t))) (λ l. cond (eqb (entered_number (enter_reply t s o)) 0) (notes (Enter t) l (A l)) (A l))
   kept_entry s t A k None e = kept_enter s t A (verdict s t) refl k
   kept_entry s t A k (Some x) e = rw (number_some x) k
 

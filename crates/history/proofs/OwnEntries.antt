@@ -5,7 +5,7 @@ use Rattle.std.proofs.lemmas.Bool.{and_parts, eqb-true}
 use Rattle.terms.specs.Answers.{first_of}
 use Rattle.terms.specs.Refusals.{number}
 use Rattle.terms.specs.Tables.{at, put}
-use Rattle.terms.specs.declared.events.Effect.{Effect}
+use Rattle.terms.specs.declared.events.EnterAnswer.TheVariants as answer
 use Rattle.terms.specs.declared.messages.Asked.{Asked}
 use Rattle.terms.specs.declared.messages.Causes.{Causes}
 use Rattle.terms.specs.declared.messages.Notice.TheVariants.{Entered, TurnedDown}
@@ -17,7 +17,7 @@ use Rattle.terms.specs.declared.refusal.Refusal.{Refusal}
 use Rattle.market.specs.Book.{Entry, Slip, is_for, reaches, taken_off, totals}
 use Rattle.market.specs.Market.{rest_refusal}
 use Rattle.market.proofs.Picked.{onlys_rest}
-use Rattle.checks.specs.Meaning.{Meaning, told_causes, whose}
+use Rattle.checks.specs.Meaning.{Meaning, no_cause, told_causes, whose}
 use Rattle.history.specs.Acts.{Enter}
 use Rattle.history.specs.Calls.{refusal}
 use Rattle.history.specs.Entering.{Verdict, asked, cannot_rest, enter_reply, entry_of, rests, turned, verdict, verdict_answer, verdict_leaves, verdict_of, with_entry}
@@ -25,7 +25,7 @@ use Rattle.history.specs.Fields.{good_ticket}
 use Rattle.history.specs.Part.{has}
 use Rattle.history.specs.Promises.{Firm}
 use Rattle.history.specs.State.{Row, State, first_cause, hold_of, is_open, nonzero, private_of, row, with_book, with_hold, with_hold_of, with_row}
-use Rattle.history.specs.Trips.{causes_of, effect_of, in_trip, no_effect, noticed, tell, trip}
+use Rattle.history.specs.Trips.{causes_of, effect_of, in_trip, noticed, tell, trip}
 use Rattle.history.proofs.Alike.{Alike, alike_off, has_alike, mine, own_any, own_counts, own_row, own_slips, own_totals}
 use Rattle.history.proofs.AlikeMoves.{alike_held, alike_row, alike_told, same_before}
 use Rattle.history.proofs.Moving.{trip_own}
@@ -164,21 +164,17 @@ module _ (m : Meaning) (a : ℕ) (firm : Firm a) where
 
   same_entered : (s u : State m) (t : Ticket) (v : Verdict) → Alike m a s u → has a s t.login ≡ true → verdict_answer t s v ≡ verdict_answer t u v
   same_entered s u t (turned n) k h =
-      ap (λ (e : Effect). record { number = n; effect = e })
+      ap (answer.TurnedDown n)
       (same_effect s u k t.login (TurnedDown (asked s t) n) (of_a s u k t.login h) h
       ∙ ap (λ (x : Asked). effect_of t.login (TurnedDown x n) u) (same_asked s u k t h))
   same_entered s u t (cannot_rest x) k h = refl
   same_entered s u t rests k h =
-      ap (λ (e : Effect). record { number = 0; effect = e })
+      ap answer.Accepted
       (same_effect (with_entry t s) (with_entry t u) (alike_rest s u k t h) t.login (Entered (asked s t)) (of_a s u k t.login h) h
       ∙ ap (λ (x : Asked). effect_of t.login (Entered x) (with_entry t u)) (same_asked s u k t h))
 
   pub same_reply : (s u : State m) (t : Ticket) (o : Option Refusal) → Alike m a s u → has a s t.login ≡ true → enter_reply t s o ≡ enter_reply t u o
   same_reply s u t None k h = same_entered s u t (verdict s t) k h ∙ ap (verdict_answer t u) (same_verdict s u k t h)
   same_reply s u t (Some x) k h =
-      ap₂ (λ (p q : ℕ). record {
-        number = number x;
-        effect = cond (eqb (number x) 21)
-            (record { causes = record { login = p; acronym = q }; cancelled = 0 }) no_effect;
-      })
+      ap₂ (λ (p q : ℕ). answer.Refused x (cond (eqb (number x) 21) (record { login = p; acronym = q }) no_cause))
       (ap (λ (r : Row). r.hold) (own_row m a firm s u k t.login h)) (same_hold s u k t.login h)

@@ -2,7 +2,7 @@
 -- and places where a wrong reading of the rules would give another answer. Assumes nothing.
 use Rattle.std.specs.Prelude.{◌≡◌, ℕ, ◌+◌, true, false, cond, List, [], ◌∷◌, replicate, Some, None, Ok, Err, nat_le, nat_lt}
 use Rattle.terms.specs.declared.refusal.Refusal.{Refusal}
-use Rattle.terms.specs.declared.refusal.Refusal.TheVariants.{Field, NotOpen, Taken, Leaving, ClockBack, NoOrder, NoSlip, SlipOut, WrongSlip, SlipsFull}
+use Rattle.terms.specs.declared.refusal.Refusal.TheVariants.{Field, NotOpen, Taken, Leaving, ClockBack, NoOrder, NoSlip, SlipOut, WrongSlip, NoValues, Held, InUse, Allotment, SlipsFull}
 use Rattle.terms.specs.declared.values.ValueNumbers.{ValueNumbers}
 use Rattle.terms.specs.declared.messages.ScopeNumber.{ScopeNumber}
 use Rattle.terms.specs.declared.messages.ScopeNumber.TheVariants.{Login, Acronym}
@@ -14,11 +14,12 @@ use Rattle.terms.specs.declared.messages.Notice.{Notice}
 use Rattle.terms.specs.declared.messages.Notice.TheVariants.{Ticked, Valued, Opened, Closed, Limited, Released, Entered, TurnedDown, Filled}
 use Rattle.terms.specs.declared.events.Effect.{Effect}
 use Rattle.terms.specs.declared.events.EnterAnswer.{EnterAnswer}
+use Rattle.terms.specs.declared.events.EnterAnswer.TheVariants as answer
 use Rattle.terms.specs.declared.events.Struck.{Struck}
 use Rattle.terms.specs.declared.events.Event.{Event}
 use Rattle.terms.specs.declared.events.Event.TheVariants as event
 use Rattle.market.specs.Book.{with_resting}
-use Rattle.checks.specs.Meaning.{Meaning}
+use Rattle.checks.specs.Meaning.{Meaning, no_cause}
 use Rattle.history.specs.State.{State, row, private_of, is_free, is_leaving, with_book}
 use Rattle.history.specs.Trips.{no_effect}
 use Rattle.history.specs.Acts.{Tick, Values, Open, Retire, Limit, Enter, Cancel, Take, Receipt, PutBack, Kill, Release, Answer, plain, amount, entered, taken}
@@ -95,8 +96,18 @@ order login number side price contracts = ticket login number side 1 price contr
 abbrev pub effect : (login acronym cancelled : ℕ) → Effect
 effect login acronym cancelled = record { causes = record { login = login; acronym = acronym }; cancelled = cancelled }
 
-abbrev pub answered : (number login acronym cancelled : ℕ) → EnterAnswer
-answered number login acronym cancelled = record { number = number; effect = effect login acronym cancelled }
+-- the answers to an entry: it rests, a check turns it down with a number, or it is refused, where it is held with the causes of the holds
+abbrev pub rests : (login acronym cancelled : ℕ) → EnterAnswer
+rests login acronym cancelled = answer.Accepted (effect login acronym cancelled)
+
+abbrev pub turned_down : (number login acronym cancelled : ℕ) → EnterAnswer
+turned_down number login acronym cancelled = answer.TurnedDown number (effect login acronym cancelled)
+
+abbrev pub refused : Refusal → EnterAnswer
+refused x = answer.Refused x no_cause
+
+abbrev pub held : (login acronym : ℕ) → EnterAnswer
+held login acronym = answer.Refused Held (record { login = login; acronym = acronym })
 
 abbrev pub fill : (login number side contracts price : ℕ) → Fill
 fill login number side contracts price = record { login = login; number = number; side = side; contracts = contracts; price = price }
@@ -128,9 +139,9 @@ morning =
     ∷ event.Open 1 1 1 3 (Ok tt)
     ∷ event.Open 2 2 1 2 (Ok tt)
     ∷ event.Limit (limit_of (Login 1) 4 50 0) (Ok tt)
-    ∷ event.Enter (order 1 1 1 100 10) (answered 0 0 0 0)
+    ∷ event.Enter (order 1 1 1 100 10) (rests 0 0 0)
     ∷ event.Strike (Ok None)
-    ∷ event.Enter (order 2 7 2 90 6) (answered 0 0 0 0)
+    ∷ event.Enter (order 2 7 2 90 6) (rests 0 0 0)
     -- a trade, whose slip is taken, put back and taken again
     ∷ event.Strike (Ok (Some (struck 1 1 2 7 4 95 no_effect no_effect)))
     ∷ event.Take 2 (Ok sold)
@@ -149,18 +160,18 @@ noon =
     event.Open 2 3 1 3 (Ok tt)
     ∷ event.Take 2 (Err NoSlip)
     -- the third entry of firm 1 rests, trips its login and is swept with the rest; a turn-down does not count
-    ∷ event.Enter (order 1 2 1 80 3) (answered 0 0 0 0)
-    ∷ event.Enter (order 1 3 1 901 5) (answered 43 0 0 0)
-    ∷ event.Enter (order 1 3 1 100 5) (answered 0 61 0 14)
-    ∷ event.Enter (order 1 4 1 100 5) (answered 21 61 0 0)
+    ∷ event.Enter (order 1 2 1 80 3) (rests 0 0 0)
+    ∷ event.Enter (order 1 3 1 901 5) (turned_down 43 0 0 0)
+    ∷ event.Enter (order 1 3 1 100 5) (rests 61 0 14)
+    ∷ event.Enter (order 1 4 1 100 5) (held 61 0)
     -- a kill with block holds the firm, and its own release lifts that hold
     ∷ event.Kill (Acronym 1) 3 1 (Ok 0)
     ∷ event.Release (Login 1) (Ok tt)
-    ∷ event.Enter (order 1 4 1 100 5) (answered 21 0 60 0)
+    ∷ event.Enter (order 1 4 1 100 5) (held 0 60)
     ∷ event.Release (Acronym 1) (Ok tt)
-    ∷ event.Enter (order 1 4 1 100 5) (answered 0 0 0 0)
+    ∷ event.Enter (order 1 4 1 100 5) (rests 0 0 0)
     ∷ event.Cancel 1 4 (Ok 5)
-    ∷ event.Enter (order 1 5 1 100 7) (answered 0 0 0 0)
+    ∷ event.Enter (order 1 5 1 100 7) (rests 0 0 0)
     ∷ []
 
 abbrev pub first_half : List Event
@@ -207,16 +218,16 @@ trip_day =
     -- of login 2 a trip sweeps quotes only
     ∷ event.Open 2 1 1 1 (Ok tt)
     ∷ event.Open 3 2 2 3 (Ok tt)
-    ∷ event.Enter (order 1 1 2 100 70) (answered 0 0 0 0)
-    ∷ event.Enter (order 2 1 1 100 80) (answered 0 0 0 0)
-    ∷ event.Enter (ticket 3 9 1 2 50 5) (answered 0 0 0 0)
+    ∷ event.Enter (order 1 1 2 100 70) (rests 0 0 0)
+    ∷ event.Enter (order 2 1 1 100 80) (rests 0 0 0)
+    ∷ event.Enter (ticket 3 9 1 2 50 5) (rests 0 0 0)
     -- the buyer is told first: its trip sweeps the 10 contracts left of the seller's order, and not its own order, which is out of reach
     ∷ event.Strike (Ok (Some (struck 2 1 1 1 60 100 (effect 62 62 10) (effect 62 62 0))))
-    ∷ event.Enter (order 2 2 1 100 5) (answered 21 62 62 0)
+    ∷ event.Enter (order 2 2 1 100 5) (held 62 62)
     -- a kill goes by its own reach
     ∷ event.Kill (Login 2) 2 0 (Ok 20)
-    ∷ event.Enter (order 3 10 2 960 5) (answered 43 0 63 5)
-    ∷ event.Enter (order 3 11 2 100 5) (answered 21 0 63 0)
+    ∷ event.Enter (order 3 10 2 960 5) (turned_down 43 0 63 5)
+    ∷ event.Enter (order 3 11 2 100 5) (held 0 63)
     ∷ [])
 
 pub record TripDay : Type 0 where
@@ -236,9 +247,9 @@ full_day =
     (event.Values 1 some_values (Ok tt)
     ∷ event.Open 1 1 1 3 (Ok tt)
     ∷ event.Open 2 2 1 3 (Ok tt)
-    ∷ event.Enter (order 1 1 1 100 1) (answered 0 0 0 0)
+    ∷ event.Enter (order 1 1 1 100 1) (rests 0 0 0)
     ∷ event.Strike (Ok None)
-    ∷ event.Enter (order 2 1 2 100 1) (answered 0 0 0 0)
+    ∷ event.Enter (order 2 1 2 100 1) (rests 0 0 0)
     ∷ event.Strike (Err SlipsFull)
     ∷ [])
 
@@ -273,15 +284,15 @@ pub record Refused : Type 0 where
   pub limit_11 : reply evening (Limit (limit_of (Login 3) 1 5 1000)) ≡ no NotOpen
   -- the size of an entry reads no interval, and an acronym needs no open login
   pub limit_size : reply evening (Limit (limit_of (Acronym 8) 4 5 0)) ≡ plain (Ok tt)
-  pub enter_1 : reply evening (Enter (order 3 1 3 100 1)) ≡ entered (answered 1 0 0 0)
-  pub enter_11 : reply evening (Enter (order 3 1 1 100 1)) ≡ entered (answered 11 0 0 0)
+  pub enter_1 : reply evening (Enter (order 3 1 3 100 1)) ≡ entered (refused Field)
+  pub enter_11 : reply evening (Enter (order 3 1 1 100 1)) ≡ entered (refused NotOpen)
   pub enter_19 :
       reply evening (Enter (record { login = 1; number = 1; series = 2; side = 1; kind = 1; marks = 0; price = 100; contracts = 1 }))
-      ≡ entered (answered 19 0 0 0)
-  pub enter_31 : reply evening (Enter (order 1 5 1 100 1)) ≡ entered (answered 31 0 0 0)
-  pub enter_32 : reply crowded (Enter (order 1 5 1 100 1)) ≡ entered (answered 32 0 0 0)
+      ≡ entered (refused NoValues)
+  pub enter_31 : reply evening (Enter (order 1 5 1 100 1)) ≡ entered (refused InUse)
+  pub enter_32 : reply crowded (Enter (order 1 5 1 100 1)) ≡ entered (refused Allotment)
   -- the checks go before the market: 43 for a number that is in use
-  pub enter_43 : reply evening (Enter (order 1 5 1 901 1)) ≡ entered (answered 43 0 0 0)
+  pub enter_43 : reply evening (Enter (order 1 5 1 901 1)) ≡ entered (turned_down 43 0 0 0)
   pub cancel_1 : reply evening (Cancel 1 0) ≡ no_contracts Field
   pub cancel_11 : reply evening (Cancel 3 1) ≡ no_contracts NotOpen
   pub cancel_15 : reply evening (Cancel 1 6) ≡ no_contracts NoOrder

@@ -8,11 +8,12 @@ use Rattle.terms.specs.declared.messages.Asked.{Asked}
 use Rattle.terms.specs.declared.messages.Causes.{Causes}
 use Rattle.terms.specs.declared.messages.Notice.TheVariants.{Entered, TurnedDown}
 use Rattle.terms.specs.declared.events.EnterAnswer.{EnterAnswer}
+use Rattle.terms.specs.declared.events.EnterAnswer.TheVariants as answer
 use Rattle.market.specs.Book.{Entry}
 use Rattle.market.specs.Market.{rest_refusal, rested}
-use Rattle.checks.specs.Meaning.{Meaning}
+use Rattle.checks.specs.Meaning.{Meaning, no_cause}
 use Rattle.history.specs.State.{State, row, hold_of, private_of, with_book, nonzero}
-use Rattle.history.specs.Trips.{no_effect, noticed, effect_of}
+use Rattle.history.specs.Trips.{noticed, effect_of}
 
 pub data Verdict : Type 0 where
   -- turned down by the checks, with a number from 41 to 59
@@ -51,9 +52,9 @@ module _ {m : Meaning} where
   verdict_leaves t s rests = noticed t.login (Entered (asked s t)) (with_entry t s)
 
   abbrev pub verdict_answer : Ticket → State m → Verdict → EnterAnswer
-  verdict_answer t s (turned n) = record { number = n; effect = effect_of t.login (TurnedDown (asked s t) n) s }
-  verdict_answer t s (cannot_rest x) = record { number = number x; effect = no_effect }
-  verdict_answer t s rests = record { number = 0; effect = effect_of t.login (Entered (asked s t)) (with_entry t s) }
+  verdict_answer t s (turned n) = answer.TurnedDown n (effect_of t.login (TurnedDown (asked s t) n) s)
+  verdict_answer t s (cannot_rest x) = answer.Refused x no_cause
+  verdict_answer t s rests = answer.Accepted (effect_of t.login (Entered (asked s t)) (with_entry t s))
 
   -- the causes of the holds of a login and of its acronym, 0 for none
   abbrev pub holds_on : State m → (login : ℕ) → Causes
@@ -65,5 +66,4 @@ module _ {m : Meaning} where
   -- what enter answers: by its verdict, or where it is refused before, why; on 21 with the causes of the holds
   abbrev pub enter_reply : Ticket → State m → Option Refusal → EnterAnswer
   enter_reply t s None = verdict_answer t s (verdict s t)
-  enter_reply t s (Some x) =
-      record { number = number x; effect = cond (number x == 21) (record { causes = holds_on s t.login; cancelled = 0 }) no_effect }
+  enter_reply t s (Some x) = answer.Refused x (cond (number x == 21) (holds_on s t.login) no_cause)

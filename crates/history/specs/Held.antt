@@ -1,5 +1,6 @@
 -- What the events alone tell: who has a login open, which series had values, and which scopes are held. Assumes nothing.
 use Rattle.std.specs.Prelude.{ℕ, Bool, true, false, cond, not, ◌&&◌, ◌||◌, List, [], ◌∷◌, ◌++◌, Some, None, Ok, Err, ◌==◌}
+use Rattle.terms.specs.Entered.{entered_number, entered_effect}
 use Rattle.terms.specs.declared.messages.Causes.{Causes}
 use Rattle.terms.specs.declared.messages.ScopeNumber.{ScopeNumber}
 use Rattle.terms.specs.declared.messages.ScopeNumber.TheVariants.{Login, Acronym}
@@ -95,7 +96,7 @@ trips_of firm (Retire l) r = []
 trips_of firm (Limit x) r = []
 trips_of firm (Enter t) (plain r) = []
 trips_of firm (Enter t) (amount r) = []
-trips_of firm (Enter t) (entered x) = cond (x.number == 21) [] (trip_words firm t.login x.effect.causes)
+trips_of firm (Enter t) (entered x) = cond (entered_number x == 21) [] (trip_words firm t.login (entered_effect x).causes)
 trips_of firm (Enter t) (taken r) = []
 trips_of firm (Enter t) (told x) = []
 trips_of firm (Cancel l n) r = []

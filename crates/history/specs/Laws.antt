@@ -1,6 +1,7 @@
 -- Laws that any run keeps, beside the three promises: what a gate's tables always hold, and what calls never do. Assumes nothing.
 use Rattle.std.specs.Prelude.{◌≡◌, ℕ, ◌≤◌, true, false, cond, ◌&&◌, ◌||◌, ◌⊎◌, List, [], ◌∷◌, length, Some, None, Ok, Option, Result, ◌==◌}
 use Rattle.std.specs.List.{AllByRecursion}
+use Rattle.terms.specs.Entered.{entered_number, entered_effect}
 use Rattle.terms.specs.declared.refusal.Refusal.{Refusal}
 use Rattle.terms.specs.declared.messages.Causes.{Causes}
 use Rattle.terms.specs.declared.messages.ScopeNumber.{ScopeNumber}
@@ -52,8 +53,8 @@ pub record CallLaws (m : Meaning) : Type 0 where
   pub refused_stands : (s : State m) (c : Act) (x : Refusal) → refusal s c ≡ Some x → next s c ≡ s
   -- an entry that is accepted rests, or is cancelled in the same answer
   pub rests_or_cancelled :
-      (p : m.Pub) (room : ℕ) (h : List Event) (t : Ticket) (r : EnterAnswer) → Happens m p room (Enter t r ∷ h) → r.number ≡ 0
-      → (any_in (is_for t.login t.number) (reached m p room (Enter t r ∷ h)).book.resting ≡ true) ⊎ (t.contracts ≤ r.effect.cancelled)
+      (p : m.Pub) (room : ℕ) (h : List Event) (t : Ticket) (r : EnterAnswer) → Happens m p room (Enter t r ∷ h) → entered_number r ≡ 0
+      → (any_in (is_for t.login t.number) (reached m p room (Enter t r ∷ h)).book.resting ≡ true) ⊎ (t.contracts ≤ (entered_effect r).cancelled)
   -- a new firm finds no slip on the login that it opens
   pub opened_none :
       (p : m.Pub) (room login acronym role reach : ℕ) (h : List Event) → Happens m p room (Open login acronym role reach (Ok tt) ∷ h)

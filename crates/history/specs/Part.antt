@@ -1,5 +1,6 @@
 -- One acronym's part of a run: the calls that concern it and its own sides of trades, each with its answer. Assumes nothing.
 use Rattle.std.specs.Prelude.{ℕ, Bool, true, cond, ◌&&◌, List, [], ◌∷◌, ◌++◌, Some, None, Ok, Err, ◌==◌}
+use Rattle.terms.specs.Entered.{entered_number}
 use Rattle.terms.specs.declared.messages.ScopeNumber.{ScopeNumber}
 use Rattle.terms.specs.declared.messages.ScopeNumber.TheVariants.{Login, Acronym}
 use Rattle.terms.specs.declared.messages.Fill.{Fill}
@@ -15,7 +16,7 @@ use Rattle.history.specs.Step.{reached}
 abbrev pub accepted : Answer → Bool
 accepted (plain r) = is_ok r
 accepted (amount r) = is_ok r
-accepted (entered x) = x.number == 0
+accepted (entered x) = entered_number x == 0
 accepted (taken r) = is_ok r
 accepted (told x) = true
 

@@ -1,5 +1,6 @@
 -- What holds of every run of a gate, over any check and any market. Assumes nothing.
 use Rattle.std.specs.Prelude.{◌≡◌, ℕ, ◌+◌, ◌≤◌, true, ◌||◌, ◌↔◌, List, ◌∷◌, Ok}
+use Rattle.terms.specs.Entered.{entered_number}
 use Rattle.terms.specs.declared.messages.Fill.{Fill}
 use Rattle.terms.specs.declared.messages.Ticket.{Ticket}
 use Rattle.terms.specs.declared.messages.ScopeNumber.TheVariants.{Login, Acronym}
@@ -46,7 +47,7 @@ abbrev pub Holds : Meaning → Type 0
 Holds m =
     (p : m.Pub) (room : ℕ) (h : List Event) (t : Ticket) (r : EnterAnswer) → Happens m p room (Enter t r ∷ h)
     → good_ticket t ≡ true → nonzero (firm_in h t.login) ≡ true → valued_in h t.series ≡ true
-    → (r.number ≡ 21) ↔ ((held_in h (Login t.login) || held_in h (Acronym (firm_in h t.login))) ≡ true)
+    → (entered_number r ≡ 21) ↔ ((held_in h (Login t.login) || held_in h (Acronym (firm_in h t.login))) ≡ true)
 
 -- ---- all three, of one run: what a gate can promise of its own day, as far as it has come
 
@@ -61,7 +62,7 @@ pub record Promised (m : Meaning) (p : m.Pub) (room : ℕ) (h : List Event) : Ty
   pub holds :
       (t : Ticket) (r : EnterAnswer) (before : List Event) → h ≡ Enter t r ∷ before → good_ticket t ≡ true
       → nonzero (firm_in before t.login) ≡ true → valued_in before t.series ≡ true
-      → (r.number ≡ 21) ↔ ((held_in before (Login t.login) || held_in before (Acronym (firm_in before t.login))) ≡ true)
+      → (entered_number r ≡ 21) ↔ ((held_in before (Login t.login) || held_in before (Acronym (firm_in before t.login))) ≡ true)
 
 abbrev pub EveryDay : Meaning → Type 0
 EveryDay m = (p : m.Pub) (room : ℕ) (h : List Event) → Happens m p room h → Promised m p room h

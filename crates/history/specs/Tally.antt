@@ -1,6 +1,7 @@
 -- An acronym's contracts: those accepted, receipted and cancelled by its part, and those that rest and wait in the book under the logins that it
 -- holds. Assumes nothing.
 use Rattle.std.specs.Prelude.{ℕ, ◌+◌, Bool, cond, ◌&&◌, List, [], ◌∷◌, ◌==◌}
+use Rattle.terms.specs.Entered.{entered_effect}
 use Rattle.terms.specs.declared.messages.Ticket.{Ticket}
 use Rattle.terms.specs.declared.events.Event.{Event}
 use Rattle.terms.specs.Tables.{up_to}
@@ -47,7 +48,7 @@ received (Release scope) = 0
 abbrev pub cancelled : Answer → ℕ
 cancelled (plain r) = 0
 cancelled (amount r) = ok_or0 r
-cancelled (entered x) = x.effect.cancelled
+cancelled (entered x) = (entered_effect x).cancelled
 cancelled (taken r) = 0
 cancelled (told x) = x.cancelled
 

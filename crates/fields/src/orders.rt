@@ -14,7 +14,7 @@ use terms::{
 };
 
 /// An entry by its login and number.
-#[derive(Clone, Copy)]
+#[derive(Clone, Copy, Debug, PartialEq, Eq)]
 pub struct Named {
     pub login: Login,
     pub number: OrderNumber,
@@ -24,14 +24,14 @@ impl Named {
     pub fn from_numbers(login: u64, number: u64) -> Result<Named, Refusal>
         ensures { Admits (out_of_range (good_login login && good_number number)) (λ n. (n.login.value ≡ login) × (n.number.value ≡ number)) result }
     {
-        let login = Login::from_number(login)?;
-        let number = OrderNumber::from_number(number)?;
+        let login = Login::try_from(login)?;
+        let number = OrderNumber::try_from(number)?;
         Ok(Named { login, number })
     }
 }
 
 /// A login to be opened, and the reach of its trips.
-#[derive(Clone, Copy)]
+#[derive(Clone, Copy, Debug, PartialEq, Eq)]
 pub struct Opening {
     pub login: Login,
     pub reach: Reach,
@@ -41,30 +41,32 @@ impl Opening {
     pub fn from_numbers(login: u64, acronym: u64, role: u64, reach: u64) -> Result<Opening, Refusal>
         ensures { Admits (out_of_range (good_open login acronym role reach)) (λ o. (o.login.value ≡ login) × (reach_number o.reach ≡ reach)) result }
     {
-        let login = Login::from_number(login)?;
-        let _ = Acronym::from_number(acronym)?;
-        let _ = Role::from_number(role)?;
-        let reach = Reach::from_number(reach)?;
+        let login = Login::try_from(login)?;
+        let _ = Acronym::try_from(acronym)?;
+        let _ = Role::try_from(role)?;
+        let reach = Reach::try_from(reach)?;
         Ok(Opening { login, reach })
     }
 }
 
 /// A slip as it is handed back, by the login that it was handed out to.
-#[derive(Clone, Copy)]
+#[derive(Clone, Copy, Debug, PartialEq, Eq)]
 pub struct Claim {
     pub login: Login,
     pub slip: Slip,
 }
 
-impl Claim {
-    pub fn from_fill(fill: &Fill) -> Result<Claim, Refusal>
-        ensures { Admits (out_of_range (good_fill fill.now)) (λ k. (k.login.value ≡ fill.now.login) × (seen_slip k.slip ≡ slip_of fill.now)) result }
-    {
-        let login = Login::from_number(fill.login)?;
-        let number = OrderNumber::from_number(fill.number)?;
-        let side = Side::from_number(fill.side)?;
-        let contracts = Contracts::from_number(fill.contracts)?;
-        let price = Price::from_number(fill.price)?;
+impl TryFrom<&Fill> for Claim {
+    type Error = Refusal;
+
+    ghost try_from_gives = { λ fill. Admits (out_of_range (good_fill fill.now)) (λ k. (k.login.value ≡ fill.now.login) × (seen_slip k.slip ≡ slip_of fill.now)) };
+
+    fn try_from(fill: &Fill) -> Result<Claim, Refusal> {
+        let login = Login::try_from(fill.login)?;
+        let number = OrderNumber::try_from(fill.number)?;
+        let side = Side::try_from(fill.side)?;
+        let contracts = Contracts::try_from(fill.contracts)?;
+        let price = Price::try_from(fill.price)?;
         Ok(Claim {
             login,
             slip: Slip {
@@ -78,24 +80,26 @@ impl Claim {
 }
 
 /// An entry with its series.
-#[derive(Clone, Copy)]
+#[derive(Clone, Copy, Debug, PartialEq, Eq)]
 pub struct Order {
     pub series: Series,
     pub entry: Entry,
 }
 
-impl Order {
-    pub fn from_ticket(ticket: &Ticket) -> Result<Order, Refusal>
-        ensures { Admits (out_of_range (good_ticket ticket.now)) (λ o. (o.series.value ≡ ticket.now.series) × (seen o.entry ≡ entry_of ticket.now)) result }
-    {
-        let login = Login::from_number(ticket.login)?;
-        let number = OrderNumber::from_number(ticket.number)?;
-        let series = Series::from_number(ticket.series)?;
-        let side = Side::from_number(ticket.side)?;
-        let kind = Kind::from_number(ticket.kind)?;
-        let _ = Marks::from_number(ticket.marks)?;
-        let price = Price::from_number(ticket.price)?;
-        let contracts = Contracts::from_number(ticket.contracts)?;
+impl TryFrom<&Ticket> for Order {
+    type Error = Refusal;
+
+    ghost try_from_gives = { λ ticket. Admits (out_of_range (good_ticket ticket.now)) (λ o. (o.series.value ≡ ticket.now.series) × (seen o.entry ≡ entry_of ticket.now)) };
+
+    fn try_from(ticket: &Ticket) -> Result<Order, Refusal> {
+        let login = Login::try_from(ticket.login)?;
+        let number = OrderNumber::try_from(ticket.number)?;
+        let series = Series::try_from(ticket.series)?;
+        let side = Side::try_from(ticket.side)?;
+        let kind = Kind::try_from(ticket.kind)?;
+        let _ = Marks::try_from(ticket.marks)?;
+        let price = Price::try_from(ticket.price)?;
+        let contracts = Contracts::try_from(ticket.contracts)?;
         Ok(Order {
             series,
             entry: Entry {

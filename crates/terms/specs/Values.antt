@@ -1,5 +1,10 @@
 -- How the numbers of an entry and of a series are read, field by field: one that is out of its range refuses them all. Assumes nothing.
 use Rattle.std.specs.Prelude.{ℕ, Some, None, Option}
+use Rattle.std.specs.Option.{option_map}
+use Rattle.terms.specs.declared.messages.ScopeNumber.{ScopeNumber}
+use Rattle.terms.specs.declared.messages.ScopeNumber.TheVariants as number
+use Rattle.terms.specs.declared.values.Scope.{Scope}
+use Rattle.terms.specs.declared.values.Scope.TheVariants.{Login, Acronym}
 use Rattle.terms.specs.declared.values.BidOffer.{BidOffer}
 use Rattle.terms.specs.declared.values.Conditions.{Conditions}
 use Rattle.terms.specs.declared.values.ConditionNumbers.{ConditionNumbers}
@@ -15,6 +20,11 @@ infixr 20 ◌then◌
 abbrev pub ◌then◌ : {X Y : Type 0} → Option X → (X → Option Y) → Option Y
 None then f = None
 Some x then f = f x
+
+-- a scope is read as the login or the acronym that it names
+abbrev pub scope : ScopeNumber → Option Scope
+scope (number.Login n) = option_map Login (bounded 1 24 n)
+scope (number.Acronym n) = option_map Acronym (bounded 1 8 n)
 
 unfoldable pub bid_offer : ℕ → ℕ → Option BidOffer
 bid_offer bid offer = optional bid then λ bid. optional offer then λ offer. Some (record { bid = bid; offer = offer })

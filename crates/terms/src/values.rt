@@ -2,9 +2,10 @@
 
 ghost use Rattle.std.specs.Prelude.{◌≡◌};
 ghost use Rattle.terms.specs.Ranges.{or_field};
-ghost use Rattle.terms.specs.Values.{bid_offer, conditions, values, request};
+ghost use Rattle.terms.specs.Values.{scope, bid_offer, conditions, values, request};
 
 use crate::kinds::{Class, Kind, Marks, OptionType, Phase, Role, Side, flag};
+use crate::messages::ScopeNumber;
 use crate::ranges::{Acronym, Login, Price, optional_price};
 use crate::refusal::Refusal;
 
@@ -82,6 +83,19 @@ pub struct RequestNumbers {
     pub kind: u64,
     pub marks: u64,
     pub price: u64,
+}
+
+impl TryFrom<ScopeNumber> for Scope {
+    type Error = Refusal;
+
+    ghost try_from_gives = { λ n r. r ≡ or_field (scope n) };
+
+    fn try_from(n: ScopeNumber) -> Result<Scope, Refusal> {
+        match n {
+            ScopeNumber::Login(login) => Ok(Scope::Login(Login::try_from(login)?)),
+            ScopeNumber::Acronym(acronym) => Ok(Scope::Acronym(Acronym::try_from(acronym)?)),
+        }
+    }
 }
 
 impl BidOffer {

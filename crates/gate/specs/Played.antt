@@ -4,7 +4,9 @@ use Rattle.terms.specs.declared.events.Call.{Call}
 use Rattle.terms.specs.declared.events.Event.{Event}
 use Rattle.terms.specs.declared.refusal.Refusal.{Refusal}
 use Rattle.terms.specs.declared.refusal.Refusal.TheVariants.{NotEmpty}
-use Rattle.market.specs.Book.{Book, empty}
+use Rattle.market.specs.Book.{empty}
+use Rattle.market.specs.declared.Market.{Ghosts as MarketOf}
+use Rattle.checks.specs.declared.checking.Check.{Ghosts as ChecksOf}
 use Rattle.checks.specs.Meaning.{Meaning}
 use Rattle.history.specs.State.{State, new_gate}
 use Rattle.history.specs.Acts.{call_of}
@@ -37,20 +39,21 @@ pub record Answered (n : ℕ) (calls : List Call) (before after : List Event) : 
   pub each : map call_of (take n after) ≡ take n calls
   pub others : drop n after ≡ drop n before
 
-module _ {M C : Type 0} (m : Meaning) (book : M → Book) (public : C → m.Pub) (private : C → List m.Priv) where
+module _ {M C : Type 0} (market : MarketOf M) (checks : ChecksOf C) where
   -- a gate is made over a market in which nothing rests and nothing waits, and over no other
   abbrev pub Made : M → C → Result (Gate M C) Refusal → Type 0
-  Made market checks (Ok g) =
-      (book market ≡ empty (book market).room) × (state_of m book public private g ≡ new_gate m (public checks) (book market).room)
-  Made market checks (Err e) = (e ≡ NotEmpty) × (book market ≢ empty (book market).room)
+  Made m c (Ok g) =
+      (market.book m ≡ empty (market.book m).room)
+      × (state_of market checks g ≡ new_gate checks.meaning (checks.public c) (market.book m).room)
+  Made m c (Err e) = (e ≡ NotEmpty) × (market.book m ≢ empty (market.book m).room)
 
   -- A whole day from a new gate: it is a run, it keeps isolation, contract sum and holds, and its events answer the calls.
-  pub record WholeDay (market : M) (checks : C) (g : Gate M C) (calls : List Call) (before after : List Event) : Type 0 where
-    pub bare : book market ≡ empty (book market).room
-    pub run : Run m (public checks) (book market).room (onto (take (played calls before) after) []) (state_of m book public private g)
-    pub promised : Promised m (public checks) (book market).room (onto (take (played calls before) after) [])
+  pub record WholeDay (m : M) (c : C) (g : Gate M C) (calls : List Call) (before after : List Event) : Type 0 where
+    pub bare : market.book m ≡ empty (market.book m).room
+    pub run : Run checks.meaning (checks.public c) (market.book m).room (onto (take (played calls before) after) []) (state_of market checks g)
+    pub promised : Promised checks.meaning (checks.public c) (market.book m).room (onto (take (played calls before) after) [])
     pub answered : Answered (played calls before) calls before after
 
   abbrev pub Day : M → C → Result (Gate M C) Refusal → List Call → (before after : List Event) → Type 0
-  Day market checks (Ok g) calls before after = WholeDay market checks g calls before after
-  Day market checks (Err e) calls before after = (e ≡ NotEmpty) × (book market ≢ empty (book market).room) × (after ≡ before)
+  Day m c (Ok g) calls before after = WholeDay m c g calls before after
+  Day m c (Err e) calls before after = (e ≡ NotEmpty) × (market.book m ≢ empty (market.book m).room) × (after ≡ before)

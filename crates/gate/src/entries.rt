@@ -18,20 +18,10 @@ use fields::{Named, Order};
 use market::Market;
 use terms::{Asked, Causes, Effect, EnterAnswer, Event, Notice, Refusal, Ticket};
 
-/// Nothing trips, and nothing is cancelled.
-fn no_effect() -> Effect
-    ensures { result ≡ no_effect }
-{
-    Effect {
-        causes: NO_CAUSE,
-        cancelled: 0,
-    }
-}
-
 impl<'g, M: Market, C: Check> Gate<'g, M, C> {
     /// Takes off an entry of an open login by its number; the contracts that were cancelled.
     pub fn cancel(&mut self, login: u64, number: u64) -> Result<u32, Refusal>
-        ensures { Steps C.Check.meaning M.Market.book C.Check.public C.Check.private self.old (Event.Cancel login number result) self.new }
+        ensures { Steps M.Market C.Check self.old (Event.Cancel login number result) self.new }
     {
         let named = Named::from_numbers(login, number)?;
         if !self.row(login).is_open() {
@@ -42,7 +32,7 @@ impl<'g, M: Market, C: Check> Gate<'g, M, C> {
 
     /// The causes of the holds on a login and on its firm, 0 for none.
     fn holds_on(&self, login: u64) -> Causes
-        ensures { result ≡ holds_on (state_of C.Check.meaning M.Market.book C.Check.public C.Check.private self.now) login }
+        ensures { result ≡ holds_on (state_of M.Market C.Check self.now) login }
     {
         let row = self.row(login);
         Causes {
@@ -52,16 +42,16 @@ impl<'g, M: Market, C: Check> Gate<'g, M, C> {
     }
 
     fn is_held(&self, login: u64) -> bool
-        ensures { result ≡ is_held (state_of C.Check.meaning M.Market.book C.Check.public C.Check.private self.now) login }
+        ensures { result ≡ is_held (state_of M.Market C.Check self.now) login }
     {
         let holds = self.holds_on(login);
         holds.login != 0 || holds.acronym != 0
     }
 
     fn admit_enter(&self, ticket: &Ticket) -> Result<Order, Refusal>
-        ensures { Admits (refusal_of (state_of C.Check.meaning M.Market.book C.Check.public C.Check.private self.now) (EnterAct ticket.now)) (λ o. (o.series.value ≡ ticket.now.series) × (seen o.entry ≡ entry_of ticket.now)) result }
+        ensures { Admits (refusal_of (state_of M.Market C.Check self.now) (EnterAct ticket.now)) (λ o. (o.series.value ≡ ticket.now.series) × (seen o.entry ≡ entry_of ticket.now)) result }
     {
-        let order = Order::from_ticket(ticket)?;
+        let order = Order::try_from(ticket)?;
         if !self.row(ticket.login).is_open() {
             return Err(Refusal::NotOpen);
         }
@@ -76,24 +66,18 @@ impl<'g, M: Market, C: Check> Gate<'g, M, C> {
 
     /// What enter answers where it is refused before the checks: a hold tells its causes.
     fn refused(&self, login: u64, refusal: Refusal) -> EnterAnswer
-        ensures { result ≡ refused_with (state_of C.Check.meaning M.Market.book C.Check.public C.Check.private self.now) login refusal }
+        ensures { result ≡ refused_with (state_of M.Market C.Check self.now) login refusal }
     {
-        let effect = match refusal {
-            Refusal::Held => Effect {
-                causes: self.holds_on(login),
-                cancelled: 0,
-            },
-            _ => no_effect(),
+        let holds = match refusal {
+            Refusal::Held => self.holds_on(login),
+            _ => NO_CAUSE,
         };
-        EnterAnswer {
-            number: refusal.number(),
-            effect,
-        }
+        EnterAnswer::Refused { refusal, holds }
     }
 
     /// A ticket as the checks judge it.
     fn asked(&self, ticket: Ticket) -> Asked
-        ensures { result ≡ asked_of (state_of C.Check.meaning M.Market.book C.Check.public C.Check.private self.now) ticket }
+        ensures { result ≡ asked_of (state_of M.Market C.Check self.now) ticket }
     {
         let row = self.row(ticket.login);
         Asked {
@@ -105,7 +89,7 @@ impl<'g, M: Market, C: Check> Gate<'g, M, C> {
 
     /// Judges an order or a quote, and lets it rest in the market.
     pub fn enter(&mut self, ticket: Ticket) -> EnterAnswer
-        ensures { Steps C.Check.meaning M.Market.book C.Check.public C.Check.private self.old (Event.Enter ticket result) self.new }
+        ensures { Steps M.Market C.Check self.old (Event.Enter ticket result) self.new }
     {
         let order = match self.admit_enter(&ticket) {
             Ok(order) => order,
@@ -115,15 +99,15 @@ impl<'g, M: Market, C: Check> Gate<'g, M, C> {
         let number = self.checks.judge(asked);
         if number != 0 {
             let effect = self.notice(ticket.login, Notice::TurnedDown { asked, number });
-            return EnterAnswer { number, effect };
+            return EnterAnswer::TurnedDown { number, effect };
         }
         if let Err(refusal) = self.market.rest(order.series, order.entry) {
-            return EnterAnswer {
-                number: refusal.number(),
-                effect: no_effect(),
+            return EnterAnswer::Refused {
+                refusal,
+                holds: NO_CAUSE,
             };
         }
         let effect = self.notice(ticket.login, Notice::Entered { asked });
-        EnterAnswer { number: 0, effect }
+        EnterAnswer::Accepted { effect }
     }
 }

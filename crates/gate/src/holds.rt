@@ -22,21 +22,21 @@ pub(crate) fn all_rows(_rows: &[Row; 24])
 impl<'g, M: Market, C: Check> Gate<'g, M, C> {
     /// The row of a login; a number that is no login's has that of a free one.
     pub fn row(&self, login: u64) -> Row
-        ensures { seen_row result ≡ row_of (state_of C.Check.meaning M.Market.book C.Check.public C.Check.private self.now) login }
+        ensures { seen_row result ≡ row_of (state_of M.Market C.Check self.now) login }
     {
         read_at(&self.rows, login, BLANK)
     }
 
     /// The cause of a firm's hold, 0 for none.
     pub(crate) fn hold_of(&self, acronym: u64) -> u8
-        ensures { result ≡ hold_of (state_of C.Check.meaning M.Market.book C.Check.public C.Check.private self.now) acronym }
+        ensures { result ≡ hold_of (state_of M.Market C.Check self.now) acronym }
     {
         read_at(&self.holds, acronym, 0)
     }
 
     /// Whether the scope is a login that is not open.
     pub(crate) fn is_shut(&self, scope: ScopeNumber) -> bool
-        ensures { result ≡ shut (state_of C.Check.meaning M.Market.book C.Check.public C.Check.private self.now) scope }
+        ensures { result ≡ shut (state_of M.Market C.Check self.now) scope }
     {
         match scope {
             ScopeNumber::Login(login) => !self.row(login).is_open(),
@@ -46,7 +46,7 @@ impl<'g, M: Market, C: Check> Gate<'g, M, C> {
 
     /// The firm whose scope it is.
     pub(crate) fn firm_of(&self, scope: ScopeNumber) -> u64
-        ensures { result ≡ scope_acronym (state_of C.Check.meaning M.Market.book C.Check.public C.Check.private self.now) scope }
+        ensures { result ≡ scope_acronym (state_of M.Market C.Check self.now) scope }
     {
         match scope {
             ScopeNumber::Login(login) => self.row(login).acronym(),
@@ -55,7 +55,7 @@ impl<'g, M: Market, C: Check> Gate<'g, M, C> {
     }
 
     fn hold_login(&mut self, login: u64, cause: u8)
-        ensures { state_of C.Check.meaning M.Market.book C.Check.public C.Check.private self.new ≡ hold_scope (ScopeNumber.Login login) cause (state_of C.Check.meaning M.Market.book C.Check.public C.Check.private self.old) }
+        ensures { state_of M.Market C.Check self.new ≡ hold_scope (ScopeNumber.Login login) cause (state_of M.Market C.Check self.old) }
     {
         all_rows(&self.rows);
         if let Some(at) = place(login, LOGINS) {
@@ -64,7 +64,7 @@ impl<'g, M: Market, C: Check> Gate<'g, M, C> {
     }
 
     fn lift_login(&mut self, login: u64)
-        ensures { state_of C.Check.meaning M.Market.book C.Check.public C.Check.private self.new ≡ lift_scope (ScopeNumber.Login login) (state_of C.Check.meaning M.Market.book C.Check.public C.Check.private self.old) }
+        ensures { state_of M.Market C.Check self.new ≡ lift_scope (ScopeNumber.Login login) (state_of M.Market C.Check self.old) }
     {
         all_rows(&self.rows);
         if let Some(at) = place(login, LOGINS) {
@@ -74,7 +74,7 @@ impl<'g, M: Market, C: Check> Gate<'g, M, C> {
 
     /// Holds a scope, by its first cause.
     pub(crate) fn hold_scope(&mut self, scope: ScopeNumber, cause: u8)
-        ensures { state_of C.Check.meaning M.Market.book C.Check.public C.Check.private self.new ≡ hold_scope scope cause (state_of C.Check.meaning M.Market.book C.Check.public C.Check.private self.old) }
+        ensures { state_of M.Market C.Check self.new ≡ hold_scope scope cause (state_of M.Market C.Check self.old) }
     {
         match scope {
             ScopeNumber::Login(login) => self.hold_login(login, cause),
@@ -87,7 +87,7 @@ impl<'g, M: Market, C: Check> Gate<'g, M, C> {
 
     /// Lifts the hold of a scope.
     pub(crate) fn lift_scope(&mut self, scope: ScopeNumber)
-        ensures { state_of C.Check.meaning M.Market.book C.Check.public C.Check.private self.new ≡ lift_scope scope (state_of C.Check.meaning M.Market.book C.Check.public C.Check.private self.old) }
+        ensures { state_of M.Market C.Check self.new ≡ lift_scope scope (state_of M.Market C.Check self.old) }
     {
         match scope {
             ScopeNumber::Login(login) => self.lift_login(login),
@@ -97,7 +97,7 @@ impl<'g, M: Market, C: Check> Gate<'g, M, C> {
 
     /// Notes that a slip of a login is out, or that it is no more.
     pub(crate) fn set_out(&mut self, login: Login, out: bool)
-        ensures { state_of C.Check.meaning M.Market.book C.Check.public C.Check.private self.new ≡ with_row login.value (with_out out (row_of (state_of C.Check.meaning M.Market.book C.Check.public C.Check.private self.old) login.value)) (state_of C.Check.meaning M.Market.book C.Check.public C.Check.private self.old) }
+        ensures { state_of M.Market C.Check self.new ≡ with_row login.value (with_out out (row_of (state_of M.Market C.Check self.old) login.value)) (state_of M.Market C.Check self.old) }
     {
         all_rows(&self.rows);
         self.rows[login.index()].set_out(out);

@@ -20,7 +20,7 @@ const KILLED: u8 = 60;
 
 impl<'g, M: Market, C: Check> Gate<'g, M, C> {
     fn admit_kill(&self, scope: ScopeNumber, reach: u64, block: u64) -> Result<Kill, Refusal>
-        ensures { Admits (refusal (state_of C.Check.meaning M.Market.book C.Check.public C.Check.private self.now) (KillAct scope reach block)) (λ k. (reach_number k.reach ≡ reach) × (flag_number k.block ≡ block)) result }
+        ensures { Admits (refusal (state_of M.Market C.Check self.now) (KillAct scope reach block)) (λ k. (reach_number k.reach ≡ reach) × (flag_number k.block ≡ block)) result }
     {
         let kill = Kill::from_numbers(scope, reach, block)?;
         if self.is_shut(scope) {
@@ -31,7 +31,7 @@ impl<'g, M: Market, C: Check> Gate<'g, M, C> {
 
     /// Takes off what a scope's open logins rest within a reach and, with block, holds the scope; the contracts that were cancelled.
     pub fn kill(&mut self, scope: ScopeNumber, reach: u64, block: u64) -> Result<u32, Refusal>
-        ensures { Steps C.Check.meaning M.Market.book C.Check.public C.Check.private self.old (Event.Kill scope reach block result) self.new }
+        ensures { Steps M.Market C.Check self.old (Event.Kill scope reach block result) self.new }
     {
         let kill = self.admit_kill(scope, reach, block)?;
         all_rows(&self.rows);
@@ -47,7 +47,7 @@ impl<'g, M: Market, C: Check> Gate<'g, M, C> {
 
     /// Lifts the hold of a scope, if there is one.
     pub fn release(&mut self, scope: ScopeNumber) -> Result<(), Refusal>
-        ensures { Steps C.Check.meaning M.Market.book C.Check.public C.Check.private self.old (Event.Release scope result) self.new }
+        ensures { Steps M.Market C.Check self.old (Event.Release scope result) self.new }
     {
         scope_fields(scope)?;
         if self.is_shut(scope) {

@@ -22,10 +22,7 @@ impl<'g, M: Market, C: Check> Gate<'g, M, C> {
     pub(crate) fn none_wait(&self, login: Login) -> bool
         ensures { result ≡ nothing_waits (waiting_of (M.Market.book self.now.market.now) login.value) }
     {
-        match self.market.first_slip(login) {
-            None => true,
-            Some(_) => false,
-        }
+        self.market.first_slip(login).is_none()
     }
 
     fn admit_open(
@@ -35,7 +32,7 @@ impl<'g, M: Market, C: Check> Gate<'g, M, C> {
         role: u64,
         reach: u64,
     ) -> Result<Opening, Refusal>
-        ensures { Admits (refusal (state_of C.Check.meaning M.Market.book C.Check.public C.Check.private self.now) (OpenAct login acronym role reach)) (λ o. (o.login.value ≡ login) × (reach_number o.reach ≡ reach)) result }
+        ensures { Admits (refusal (state_of M.Market C.Check self.now) (OpenAct login acronym role reach)) (λ o. (o.login.value ≡ login) × (reach_number o.reach ≡ reach)) result }
     {
         let opening = Opening::from_numbers(login, acronym, role, reach)?;
         let row = self.row(login);
@@ -50,7 +47,7 @@ impl<'g, M: Market, C: Check> Gate<'g, M, C> {
 
     /// Gives a free login to a firm.
     pub fn open(&mut self, login: u64, acronym: u64, role: u64, reach: u64) -> Result<(), Refusal>
-        ensures { Steps C.Check.meaning M.Market.book C.Check.public C.Check.private self.old (Event.Open login acronym role reach result) self.new }
+        ensures { Steps M.Market C.Check self.old (Event.Open login acronym role reach result) self.new }
     {
         let opening = self.admit_open(login, acronym, role, reach)?;
         all_rows(&self.rows);
@@ -73,9 +70,9 @@ impl<'g, M: Market, C: Check> Gate<'g, M, C> {
     }
 
     fn admit_retire(&self, login: u64) -> Result<Login, Refusal>
-        ensures { Admits (refusal (state_of C.Check.meaning M.Market.book C.Check.public C.Check.private self.now) (RetireAct login)) (λ l. l.value ≡ login) result }
+        ensures { Admits (refusal (state_of M.Market C.Check self.now) (RetireAct login)) (λ l. l.value ≡ login) result }
     {
-        let named = Login::from_number(login)?;
+        let named = Login::try_from(login)?;
         if !self.row(login).is_open() {
             return Err(Refusal::NotOpen);
         }
@@ -84,7 +81,7 @@ impl<'g, M: Market, C: Check> Gate<'g, M, C> {
 
     /// Takes off all that a login rests, and frees it, at once or with the last of its slips; the contracts that were cancelled.
     pub fn retire(&mut self, login: u64) -> Result<u32, Refusal>
-        ensures { Steps C.Check.meaning M.Market.book C.Check.public C.Check.private self.old (Event.Retire login result) self.new }
+        ensures { Steps M.Market C.Check self.old (Event.Retire login result) self.new }
     {
         let leaver = self.admit_retire(login)?;
         let acronym = self.row(login).acronym();

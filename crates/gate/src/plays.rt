@@ -14,7 +14,7 @@ use terms::{Call, Event, Refusal};
 impl<'g, M: Market, C: Check> Gate<'g, M, C> {
     /// A new gate at time 0 with every login free, over a market in which nothing rests and nothing waits.
     pub fn new(market: &'g mut M, checks: &'g mut C) -> Result<Gate<'g, M, C>, Refusal>
-        ensures { Made C.Check.meaning M.Market.book C.Check.public C.Check.private market.old checks.old result }
+        ensures { Made M.Market C.Check market.old checks.old result }
     {
         if !market.is_bare() {
             return Err(Refusal::NotEmpty);
@@ -32,7 +32,7 @@ impl<'g, M: Market, C: Check> Gate<'g, M, C> {
 
     /// Answers a call.
     fn answer(&mut self, call: Call) -> Event
-        ensures step { Steps C.Check.meaning M.Market.book C.Check.public C.Check.private self.old result self.new }
+        ensures step { Steps M.Market C.Check self.old result self.new }
         ensures asked { call_of result ≡ call }
     {
         match call {
@@ -121,9 +121,9 @@ impl<'g, M: Market, C: Check> Gate<'g, M, C> {
 
     /// Answers a call. Whatever calls led here, isolation, contract sum and holds stand for all of them with this one.
     pub fn call(&mut self, call: Call) -> Event
-        ensures step { Steps C.Check.meaning M.Market.book C.Check.public C.Check.private self.old result self.new }
+        ensures step { Steps M.Market C.Check self.old result self.new }
         ensures asked { call_of result ≡ call }
-        ensures keeps { Keeps (state_of C.Check.meaning M.Market.book C.Check.public C.Check.private self.old) (result ∷ []) (state_of C.Check.meaning M.Market.book C.Check.public C.Check.private self.new) }
+        ensures keeps { Keeps (state_of M.Market C.Check self.old) (result ∷ []) (state_of M.Market C.Check self.new) }
     {
         self.answer(call)
     }
@@ -132,8 +132,8 @@ impl<'g, M: Market, C: Check> Gate<'g, M, C> {
     pub fn run(&mut self, calls: &[Call], events: &mut [Event]) -> usize
         ensures count { result ≡ played calls.now events.old }
         ensures answered { Answered result calls.now events.old events.new }
-        ensures leads { Leads (state_of C.Check.meaning M.Market.book C.Check.public C.Check.private self.old) (take result events.new) (state_of C.Check.meaning M.Market.book C.Check.public C.Check.private self.new) }
-        ensures keeps { Keeps (state_of C.Check.meaning M.Market.book C.Check.public C.Check.private self.old) (take result events.new) (state_of C.Check.meaning M.Market.book C.Check.public C.Check.private self.new) }
+        ensures leads { Leads (state_of M.Market C.Check self.old) (take result events.new) (state_of M.Market C.Check self.new) }
+        ensures keeps { Keeps (state_of M.Market C.Check self.old) (take result events.new) (state_of M.Market C.Check self.new) }
     {
         let count = calls.len().min(events.len());
         for i in 0..count {
@@ -149,7 +149,7 @@ impl<'g, M: Market, C: Check> Gate<'g, M, C> {
         calls: &[Call],
         events: &mut [Event],
     ) -> Result<Gate<'g, M, C>, Refusal>
-        ensures { Day C.Check.meaning M.Market.book C.Check.public C.Check.private market.old checks.old result calls.now events.old events.new }
+        ensures { Day M.Market C.Check market.old checks.old result calls.now events.old events.new }
     {
         let mut gate = Gate::new(market, checks)?;
         let _ = gate.run(calls, events);

@@ -49,28 +49,19 @@ impl Row {
     pub(crate) fn is_free(&self) -> bool
         ensures { result ≡ is_free (seen_row self.now) }
     {
-        match self.standing {
-            Standing::Free => true,
-            _ => false,
-        }
+        matches!(self.standing, Standing::Free)
     }
 
     pub(crate) fn is_open(&self) -> bool
         ensures { result ≡ is_open (seen_row self.now) }
     {
-        match self.standing {
-            Standing::Open(_) => true,
-            _ => false,
-        }
+        matches!(self.standing, Standing::Open(_))
     }
 
     pub(crate) fn is_leaving(&self) -> bool
         ensures { result ≡ is_leaving (seen_row self.now) }
     {
-        match self.standing {
-            Standing::Leaving(_) => true,
-            _ => false,
-        }
+        matches!(self.standing, Standing::Leaving(_))
     }
 
     /// The firm that has the login, 0 for none.

@@ -15,9 +15,9 @@ use terms::{Event, LimitNumbers, Notice, Refusal, Time, ValueNumbers};
 impl<'g, M: Market, C: Check> Gate<'g, M, C> {
     /// Sets the clock, which does not go back.
     pub fn tick(&mut self, time: u64) -> Result<(), Refusal>
-        ensures { Steps C.Check.meaning M.Market.book C.Check.public C.Check.private self.old (Event.Tick time result) self.new }
+        ensures { Steps M.Market C.Check self.old (Event.Tick time result) self.new }
     {
-        let new = Time::from_number(time)?.number();
+        let new = Time::try_from(time)?.number();
         if new < self.time {
             return Err(Refusal::ClockBack);
         }
@@ -28,7 +28,7 @@ impl<'g, M: Market, C: Check> Gate<'g, M, C> {
 
     /// Makes known what holds of a series.
     pub fn values(&mut self, series: u64, values: ValueNumbers) -> Result<(), Refusal>
-        ensures { Steps C.Check.meaning M.Market.book C.Check.public C.Check.private self.old (Event.Values series values result) self.new }
+        ensures { Steps M.Market C.Check self.old (Event.Values series values result) self.new }
     {
         value_fields(series, &values)?;
         put_at(&mut self.valued, series, true);
@@ -37,7 +37,7 @@ impl<'g, M: Market, C: Check> Gate<'g, M, C> {
     }
 
     fn admit_limit(&self, limit: &LimitNumbers) -> Result<(), Refusal>
-        ensures { Admits (refusal (state_of C.Check.meaning M.Market.book C.Check.public C.Check.private self.now) (LimitAct limit.now)) (λ _. Unit {0}) result }
+        ensures { Admits (refusal (state_of M.Market C.Check self.now) (LimitAct limit.now)) (λ _. Unit {0}) result }
     {
         limit_fields(limit)?;
         if self.is_shut(limit.scope) {
@@ -48,7 +48,7 @@ impl<'g, M: Market, C: Check> Gate<'g, M, C> {
 
     /// Sets a limit for an open login or for a firm.
     pub fn limit(&mut self, limit: LimitNumbers) -> Result<(), Refusal>
-        ensures { Steps C.Check.meaning M.Market.book C.Check.public C.Check.private self.old (Event.Limit limit result) self.new }
+        ensures { Steps M.Market C.Check self.old (Event.Limit limit result) self.new }
     {
         self.admit_limit(&limit)?;
         let acronym = self.firm_of(limit.scope);

@@ -41,8 +41,8 @@ fn sell_side(trade: Trade) -> Fill
 impl<'g, M: Market, C: Check> Gate<'g, M, C> {
     /// Tells a side of a trade to the checks, and does what that trips.
     fn fill(&mut self, fill: Fill) -> Effect
-        ensures effect { result ≡ fill_effect fill (state_of C.Check.meaning M.Market.book C.Check.public C.Check.private self.old) }
-        ensures after { state_of C.Check.meaning M.Market.book C.Check.public C.Check.private self.new ≡ fill_told fill (state_of C.Check.meaning M.Market.book C.Check.public C.Check.private self.old) }
+        ensures effect { result ≡ fill_effect fill (state_of M.Market C.Check self.old) }
+        ensures after { state_of M.Market C.Check self.new ≡ fill_told fill (state_of M.Market C.Check self.old) }
     {
         let acronym = self.row(fill.login).acronym();
         self.notice(fill.login, Notice::Filled { acronym, fill })
@@ -50,16 +50,13 @@ impl<'g, M: Market, C: Check> Gate<'g, M, C> {
 
     /// Lets the market trade one pair, if one crosses, and tells the buyer and then the seller.
     pub fn strike(&mut self) -> Result<Option<Struck>, Refusal>
-        ensures { Steps C.Check.meaning M.Market.book C.Check.public C.Check.private self.old (Event.Strike result) self.new }
+        ensures { Steps M.Market C.Check self.old (Event.Strike result) self.new }
     {
-        match self.market.strike() {
-            Err(refusal) => Err(refusal),
-            Ok(None) => Ok(None),
-            Ok(Some(trade)) => {
-                let buy = self.fill(buy_side(trade));
-                let sell = self.fill(sell_side(trade));
-                Ok(Some(Struck { trade, buy, sell }))
-            }
-        }
+        let Some(trade) = self.market.strike()? else {
+            return Ok(None);
+        };
+        let buy = self.fill(buy_side(trade));
+        let sell = self.fill(sell_side(trade));
+        Ok(Some(Struck { trade, buy, sell }))
     }
 }

@@ -20,7 +20,7 @@ use terms::{Causes, Login, Reach, ScopeNumber};
 impl<'g, M: Market, C: Check> Gate<'g, M, C> {
     /// Whether a login is in a scope.
     fn in_scope(&self, scope: ScopeNumber, login: u64) -> bool
-        ensures { result ≡ in_scope (state_of C.Check.meaning M.Market.book C.Check.public C.Check.private self.now) scope login }
+        ensures { result ≡ in_scope (state_of M.Market C.Check self.now) scope login }
     {
         match scope {
             ScopeNumber::Login(named) => login == named,
@@ -30,7 +30,7 @@ impl<'g, M: Market, C: Check> Gate<'g, M, C> {
 
     /// Whether a trip of another login, or of its firm, sweeps a login.
     fn is_tripped(&self, tripped: u64, causes: Causes, login: u64) -> bool
-        ensures { result ≡ ((nonzero causes.login && login == tripped) || (nonzero causes.acronym && (row_of (state_of C.Check.meaning M.Market.book C.Check.public C.Check.private self.now) login).acronym == (row_of (state_of C.Check.meaning M.Market.book C.Check.public C.Check.private self.now) tripped).acronym)) }
+        ensures { result ≡ ((nonzero causes.login && login == tripped) || (nonzero causes.acronym && (row_of (state_of M.Market C.Check self.now) login).acronym == (row_of (state_of M.Market C.Check self.now) tripped).acronym)) }
     {
         let firm = self.row(tripped).acronym();
         (causes.login != 0 && login == tripped)
@@ -39,7 +39,7 @@ impl<'g, M: Market, C: Check> Gate<'g, M, C> {
 
     /// The reach within which a cut sweeps a login.
     fn reach_of(&self, cut: Cut, login: u64) -> Option<Reach>
-        ensures { option_map reach_number result ≡ cut_in (state_of C.Check.meaning M.Market.book C.Check.public C.Check.private self.now) cut login }
+        ensures { option_map reach_number result ≡ cut_in (state_of M.Market C.Check self.now) cut login }
     {
         let row = self.row(login);
         let Standing::Open(session) = row.standing else {
@@ -66,14 +66,14 @@ impl<'g, M: Market, C: Check> Gate<'g, M, C> {
     /// Sweeps a login, if the cut does; the contracts that were cancelled.
     fn sweep_login(&mut self, cut: Cut, login: u64) -> u32
         requires { (1 ≤ login) × (login ≤ 24) }
-        ensures sum { result ≡ totals (in_cut (cut_in (state_of C.Check.meaning M.Market.book C.Check.public C.Check.private self.old) cut) login) (M.Market.book self.old.market.now).resting }
+        ensures sum { result ≡ totals (in_cut (cut_in (state_of M.Market C.Check self.old) cut) login) (M.Market.book self.old.market.now).resting }
         ensures small { result ≤ 1048560 }
-        ensures after { state_of C.Check.meaning M.Market.book C.Check.public C.Check.private self.new ≡ with_book (taken_off (in_cut (cut_in (state_of C.Check.meaning M.Market.book C.Check.public C.Check.private self.old) cut) login) (M.Market.book self.old.market.now)) (state_of C.Check.meaning M.Market.book C.Check.public C.Check.private self.old) }
+        ensures after { state_of M.Market C.Check self.new ≡ with_book (taken_off (in_cut (cut_in (state_of M.Market C.Check self.old) cut) login) (M.Market.book self.old.market.now)) (state_of M.Market C.Check self.old) }
     {
         let Some(reach) = self.reach_of(cut, login) else {
             return 0;
         };
-        match Login::from_number(login) {
+        match Login::try_from(login) {
             Ok(login) => self.market.sweep(login, reach),
             Err(_) => 0,
         }
@@ -81,8 +81,8 @@ impl<'g, M: Market, C: Check> Gate<'g, M, C> {
 
     /// Sweeps all logins of a cut; the contracts that were cancelled.
     pub(crate) fn sweep_all(&mut self, cut: Cut) -> u32
-        ensures sum { result ≡ swept_sum (cut_in (state_of C.Check.meaning M.Market.book C.Check.public C.Check.private self.old) cut) 24 (M.Market.book self.old.market.now) }
-        ensures after { state_of C.Check.meaning M.Market.book C.Check.public C.Check.private self.new ≡ with_book (swept_up_to (cut_in (state_of C.Check.meaning M.Market.book C.Check.public C.Check.private self.old) cut) 24 (M.Market.book self.old.market.now)) (state_of C.Check.meaning M.Market.book C.Check.public C.Check.private self.old) }
+        ensures sum { result ≡ swept_sum (cut_in (state_of M.Market C.Check self.old) cut) 24 (M.Market.book self.old.market.now) }
+        ensures after { state_of M.Market C.Check self.new ≡ with_book (swept_up_to (cut_in (state_of M.Market C.Check self.old) cut) 24 (M.Market.book self.old.market.now)) (state_of M.Market C.Check self.old) }
     {
         let mut sum = 0;
         for place in 0..24u64 {

@@ -46,17 +46,15 @@ fn spend(slip: TakenSlip, answer: Result<(), Refusal>) -> Result<(), Returned>
 impl<'g, M: Market, C: Check> Gate<'g, M, C> {
     /// Hands out a login's oldest slip.
     pub fn take(&mut self, login: u64) -> Result<TakenSlip, Refusal>
-        ensures { Steps C.Check.meaning M.Market.book C.Check.public C.Check.private self.old (Event.Take login (taken result)) self.new }
+        ensures { Steps M.Market C.Check self.old (Event.Take login (taken result)) self.new }
     {
-        match self.take_slip(login) {
-            Ok(fill) => Ok(TakenSlip { fill }),
-            Err(refusal) => Err(refusal),
-        }
+        let fill = self.take_slip(login)?;
+        Ok(TakenSlip { fill })
     }
 
     /// Receipts a slip that was taken: it goes.
     pub fn receipt(&mut self, slip: TakenSlip) -> Result<(), Returned>
-        ensures step { Steps C.Check.meaning M.Market.book C.Check.public C.Check.private self.old (Event.Receipt slip.fill (spent result)) self.new }
+        ensures step { Steps M.Market C.Check self.old (Event.Receipt slip.fill (spent result)) self.new }
         ensures back { HandedBack slip result }
     {
         let answer = self.receipt_slip(slip.fill);
@@ -65,7 +63,7 @@ impl<'g, M: Market, C: Check> Gate<'g, M, C> {
 
     /// Puts a slip that was taken back: it waits as before.
     pub fn put_back(&mut self, slip: TakenSlip) -> Result<(), Returned>
-        ensures step { Steps C.Check.meaning M.Market.book C.Check.public C.Check.private self.old (Event.PutBack slip.fill (spent result)) self.new }
+        ensures step { Steps M.Market C.Check self.old (Event.PutBack slip.fill (spent result)) self.new }
         ensures back { HandedBack slip result }
     {
         let answer = self.put_slip_back(slip.fill);

@@ -15,8 +15,8 @@ use terms::{Causes, Effect, Notice, ScopeNumber};
 impl<'g, M: Market, C: Check> Gate<'g, M, C> {
     /// Holds and sweeps what the causes of a login trip; the contracts that were cancelled.
     fn trip(&mut self, login: u64, causes: Causes) -> u32
-        ensures sum { result ≡ totals (in_trip (state_of C.Check.meaning M.Market.book C.Check.public C.Check.private self.old) login causes) (M.Market.book self.old.market.now).resting }
-        ensures after { state_of C.Check.meaning M.Market.book C.Check.public C.Check.private self.new ≡ tripped login causes (state_of C.Check.meaning M.Market.book C.Check.public C.Check.private self.old) }
+        ensures sum { result ≡ totals (in_trip (state_of M.Market C.Check self.old) login causes) (M.Market.book self.old.market.now).resting }
+        ensures after { state_of M.Market C.Check self.new ≡ tripped login causes (state_of M.Market C.Check self.old) }
     {
         if causes.login == 0 && causes.acronym == 0 {
             return 0;
@@ -30,16 +30,16 @@ impl<'g, M: Market, C: Check> Gate<'g, M, C> {
     }
 
     pub(crate) fn tell(&mut self, notice: Notice) -> Causes
-        ensures causes { result ≡ causes_of notice (state_of C.Check.meaning M.Market.book C.Check.public C.Check.private self.old) }
-        ensures after { state_of C.Check.meaning M.Market.book C.Check.public C.Check.private self.new ≡ told notice (state_of C.Check.meaning M.Market.book C.Check.public C.Check.private self.old) }
+        ensures causes { result ≡ causes_of notice (state_of M.Market C.Check self.old) }
+        ensures after { state_of M.Market C.Check self.new ≡ told notice (state_of M.Market C.Check self.old) }
     {
         self.checks.tell(notice)
     }
 
     /// Tells the checks of something that a login did, and does what that trips.
     pub(crate) fn notice(&mut self, login: u64, notice: Notice) -> Effect
-        ensures effect { result ≡ effect_of login notice (state_of C.Check.meaning M.Market.book C.Check.public C.Check.private self.old) }
-        ensures after { state_of C.Check.meaning M.Market.book C.Check.public C.Check.private self.new ≡ noticed login notice (state_of C.Check.meaning M.Market.book C.Check.public C.Check.private self.old) }
+        ensures effect { result ≡ effect_of login notice (state_of M.Market C.Check self.old) }
+        ensures after { state_of M.Market C.Check self.new ≡ noticed login notice (state_of M.Market C.Check self.old) }
     {
         let causes = self.tell(notice);
         let cancelled = self.trip(login, causes);

@@ -7,7 +7,7 @@ use Rattle.gate.proofs.desk.Gate.enter.Goals as goal
 pub returns-then-number-ne0 : goal.returns-then-number-ne0
 returns-then-number-ne0 g c =
     let m = g.C.Check.meaning in
-    let s = state_of m g.M.Market.book g.C.Check.public g.C.Check.private c.args.self.now in
+    let s = state_of g.M.Market g.C.Check c.args.self.now in
     let a = c.in-Ok.ensures in
     turned_down m s _ c.args.ticket a.0 c.asked-asked.result c.judge-number.result c.asked-asked.ensures c.judge-number.ensures
     c.notice-effect.result c.if-number-ne0.true c.notice-effect.ensures.effect c.notice-effect.ensures.after
@@ -15,16 +15,15 @@ returns-then-number-ne0 g c =
 pub returns-in-Err-rest : goal.returns-in-Err-rest
 returns-in-Err-rest g c =
     let m = g.C.Check.meaning in
-    let s = state_of m g.M.Market.book g.C.Check.public g.C.Check.private c.args.self.now in
+    let s = state_of g.M.Market g.C.Check c.args.self.now in
     let a = c.in-Ok.ensures in
     rest_refused m s _ c.args.ticket a.0 c.asked-asked.result c.judge-number.result c.asked-asked.ensures c.judge-number.ensures
-    c.if-number-ne0.false _ _ _ a.1.0 a.1.1 c.in-Err-rest.refusal c.number.result c.no_effect.result c.in-Err-rest.ensures
-    c.number.ensures c.no_effect.ensures refl
+    c.if-number-ne0.false _ _ _ a.1.0 a.1.1 c.in-Err-rest.refusal c.in-Err-rest.ensures refl
 
 pub returns : goal.returns
 returns g c =
     let m = g.C.Check.meaning in
-    let s = state_of m g.M.Market.book g.C.Check.public g.C.Check.private c.args.self.now in
+    let s = state_of g.M.Market g.C.Check c.args.self.now in
     let a = c.in-Ok.ensures in
     rests m s _ c.args.ticket a.0 c.asked-asked.result c.judge-number.result c.asked-asked.ensures c.judge-number.ensures
     c.if-number-ne0.false _ _ _ a.1.0 a.1.1 c.notice-effect-2.result c.in_default.ensures c.notice-effect-2.ensures.effect c.notice-effect-2.ensures.after

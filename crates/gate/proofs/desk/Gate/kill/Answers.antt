@@ -9,7 +9,7 @@ use Rattle.gate.proofs.desk.Gate.kill.Goals as goal
 
 pub returns-then-kill : goal.returns-then-kill
 returns-then-kill g c =
-    let s = state_of g.C.Check.meaning g.M.Market.book g.C.Check.public g.C.Check.private c.args.self.now in
+    let s = state_of g.M.Market g.C.Check c.args.self.now in
     let a = c.in_ok-kill.ensures in
     let len = length_map seen_row c.args.self.now.rows ∙ c.all_rows.ensures in
     kill_holds s _ c.args.scope c.args.reach c.args.block c.sweep_all-cancelled.result _ a.0 len a.1.0
@@ -17,7 +17,7 @@ returns-then-kill g c =
 
 pub returns-else-kill : goal.returns-else-kill
 returns-else-kill g c =
-    let s = state_of g.C.Check.meaning g.M.Market.book g.C.Check.public g.C.Check.private c.args.self.now in
+    let s = state_of g.M.Market g.C.Check c.args.self.now in
     let a = c.in_ok-kill.ensures in
     let len = length_map seen_row c.args.self.now.rows ∙ c.all_rows.ensures in
     kill_sweeps s _ c.args.scope c.args.reach c.args.block c.sweep_all-cancelled.result _ a.0 len a.1.0

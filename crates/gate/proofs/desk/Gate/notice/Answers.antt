@@ -6,7 +6,7 @@ use Rattle.gate.proofs.desk.Gate.notice.Goals as goal
 pub returns : goal.returns
 returns g c =
     let m = g.C.Check.meaning in
-    let s = state_of m g.M.Market.book g.C.Check.public g.C.Check.private c.args.self.now in
+    let s = state_of g.M.Market g.C.Check c.args.self.now in
     let causes = c.tell-causes.ensures.causes in
     let told = c.tell-causes.ensures.after in
     record {

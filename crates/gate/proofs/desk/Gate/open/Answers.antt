@@ -6,7 +6,7 @@ use Rattle.gate.proofs.desk.Gate.open.Goals as goal
 
 pub returns : goal.returns
 returns g c =
-    let s = state_of g.C.Check.meaning g.M.Market.book g.C.Check.public g.C.Check.private c.args.self.now in
+    let s = state_of g.M.Market g.C.Check c.args.self.now in
     let a = c.in_ok-opening.ensures in
     opens s c.args.self.now.rows c.args.login c.args.acronym c.args.role c.args.reach _ c.index.result _ _ _ refl
     a.0 a.1.0 c.index.ensures.place a.1.1 refl c.tell.ensures.after

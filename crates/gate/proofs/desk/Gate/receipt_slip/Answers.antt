@@ -6,7 +6,7 @@ use Rattle.gate.proofs.desk.Gate.receipt_slip.Goals as goal
 
 pub returns : goal.returns
 returns g c =
-    let s = state_of g.C.Check.meaning g.M.Market.book g.C.Check.public g.C.Check.private c.args.self.now in
+    let s = state_of g.M.Market g.C.Check c.args.self.now in
     let a = c.in_ok-login.ensures in
     receipts s c.args.self.now.rows c.args.fill _ c.index.result c.none_wait-settled.result _ c.receipt.new.self
     (g.M.Market.book c.drop_slip.new.self) refl c.all_rows.ensures a.0 a.1 c.index.ensures.place c.index.ensures.bound

@@ -9,7 +9,7 @@ use Rattle.gate.proofs.desk.Gate.sweep_all.Given as goal
 -- the logins up to this place were swept
 abbrev pub invariant-loop-place : goal.invariant-loop-place
 invariant-loop-place g l =
-    (l.sum ≡ swept_sum (cut_in (state_of g.C.Check.meaning g.M.Market.book g.C.Check.public g.C.Check.private l.initial.self) l.cut) l.place (g.M.Market.book l.initial.self.market.now))
+    (l.sum ≡ swept_sum (cut_in (state_of g.M.Market g.C.Check l.initial.self) l.cut) l.place (g.M.Market.book l.initial.self.market.now))
     × (l.sum ≤ 1048560 * l.place)
-    × (state_of g.C.Check.meaning g.M.Market.book g.C.Check.public g.C.Check.private l.self
-    ≡ with_book (swept_up_to (cut_in (state_of g.C.Check.meaning g.M.Market.book g.C.Check.public g.C.Check.private l.initial.self) l.cut) l.place (g.M.Market.book l.initial.self.market.now)) (state_of g.C.Check.meaning g.M.Market.book g.C.Check.public g.C.Check.private l.initial.self))
+    × (state_of g.M.Market g.C.Check l.self
+    ≡ with_book (swept_up_to (cut_in (state_of g.M.Market g.C.Check l.initial.self) l.cut) l.place (g.M.Market.book l.initial.self.market.now)) (state_of g.M.Market g.C.Check l.initial.self))

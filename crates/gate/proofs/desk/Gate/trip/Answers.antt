@@ -9,7 +9,7 @@ use Rattle.gate.proofs.desk.Gate.trip.Goals as goal
 
 pub returns-then-causes-eq0-2 : goal.returns-then-causes-eq0-2
 returns-then-causes-eq0-2 g c =
-    let s = state_of g.C.Check.meaning g.M.Market.book g.C.Check.public g.C.Check.private c.args.self.now in
+    let s = state_of g.M.Market g.C.Check c.args.self.now in
     record {
       sum = trip_none_sum s c.args.login c.args.causes c.if-causes-eq0.true c.if-causes-eq0-2.true;
       after = trip_none s c.args.login c.args.causes c.if-causes-eq0.true c.if-causes-eq0-2.true;
@@ -17,7 +17,7 @@ returns-then-causes-eq0-2 g c =
 
 pub returns : goal.returns
 returns g c =
-    let s = state_of g.C.Check.meaning g.M.Market.book g.C.Check.public g.C.Check.private c.args.self.now in
+    let s = state_of g.M.Market g.C.Check c.args.self.now in
     let len = length_map seen_row c.args.self.now.rows ∙ c.all_rows.ensures in
     record {
       sum = tripped_sum s c.args.login c.sweep_all-cancelled.result c.args.causes len c.sweep_all-cancelled.ensures.sum;

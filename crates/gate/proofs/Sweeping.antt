@@ -1,5 +1,5 @@
 -- Sweeping login by login, as the gate's loop does. Assumes nothing.
-use Rattle.std.proofs.Common.{◌≡◌, ℕ, suc, ◌+◌, ◌*◌, ◌≤◌, Bool, true, false, ◌&&◌, eqb, Some, None, Option, sym, refl, ap, ◌∙◌, add-one, arith}
+use Rattle.std.proofs.Common.{◌≡◌, ℕ, suc, ◌+◌, ◌*◌, ◌≤◌, Bool, true, false, ◌&&◌, eqb, Some, None, Option, sym, refl, ap, ◌∙◌, add-one, arith, ◌-◌, subst}
 use mathlib.Core.Path.{fun_ext}
 use Rattle.market.specs.Book.{Book, Entry, in_reach, totals, taken_off}
 use Rattle.market.specs.Market.{Swept}
@@ -57,8 +57,8 @@ module _ {m : Meaning} (s : State m) where
   SweptUpTo cut n sum t =
       (sum ≡ swept_sum (cut_in s cut) n s.book) × (sum ≤ 1048560 * n) × (t ≡ with_book (swept_up_to (cut_in s cut) n s.book) s)
 
-  pub one_more : (cut : Cut) (n sum k : ℕ) (t u : State m) → SweptUpTo cut n sum t → SweptOne t (cut_in t cut) (n + 1) k u → SweptUpTo cut (n + 1) (sum + k) u
-  one_more cut n sum k t u before one =
+  next_swept : (cut : Cut) (n sum k : ℕ) (t u : State m) → SweptUpTo cut n sum t → SweptOne t (cut_in t cut) (n + 1) k u → SweptUpTo cut (n + 1) (sum + k) u
+  next_swept cut n sum k t u before one =
       let at_t : (f : State m → ℕ) → f t ≡ f (with_book (swept_up_to (cut_in s cut) n s.book) s) = λ f. ap f before.2 in
       let next : n + 1 ≡ suc n = add-one n in
       let more : k ≡ totals (in_cut (cut_in s cut) (suc n)) (swept_up_to (cut_in s cut) n s.book).resting
@@ -71,3 +71,15 @@ module _ {m : Meaning} (s : State m) where
             ∙ ap (λ i. with_book (taken_off (in_cut (cut_in s cut) i) (swept_up_to (cut_in s cut) n s.book)) s) next
             ∙ sym (ap (λ i. with_book (swept_up_to (cut_in s cut) i s.book) s) next),
       )
+
+  pub one_more :
+      (cut : Cut) (login sum k : ℕ) (t u : State m) → 1 ≤ login → SweptUpTo cut (login - 1) sum t → SweptOne t (cut_in t cut) login k u
+      → SweptUpTo cut ((login + 1) - 1) (sum + k) u
+  one_more cut login sum k t u low before one =
+      let same : (login - 1) + 1 ≡ login = omega (arith, low) in
+      let next : (login - 1) + 1 ≡ (login + 1) - 1 = omega (arith, low) in
+      subst (λ i. SweptUpTo cut i (sum + k) u) next
+      (next_swept cut (login - 1) sum k t u before (subst (λ i. SweptOne t (cut_in t cut) i k u) (sym same) one))
+
+  pub all_swept : (cut : Cut) (n sum : ℕ) (t : State m) → n ≡ 25 → SweptUpTo cut (n - 1) sum t → SweptUpTo cut 24 sum t
+  all_swept cut n sum t is up = let same : n - 1 ≡ 24 = omega (arith, is) in subst (λ i. SweptUpTo cut i sum t) same up

@@ -1,6 +1,7 @@
 -- A cause of 0 holds and sweeps nothing, and a trip goes by its firm. Assumes nothing.
-use Rattle.std.proofs.Common.{◌≡◌, ℕ, Bool, true, false, ◌&&◌, List, length, sym, refl, ap, ◌∙◌, ap₂, ⊎_elim}
+use Rattle.std.proofs.Common.{◌≡◌, ℕ, Bool, true, false, ◌&&◌, eqb, eqb-true, List, length, sym, refl, ap, ◌∙◌, ap₂, ⊎_elim}
 use mathlib.Core.Path.{fun_ext}
+use Rattle.std.proofs.lemmas.Bool.{and_parts}
 use Rattle.std.proofs.lemmas.Bool.Decides.{eqb_tells}
 use Rattle.terms.specs.declared.messages.Causes.{Causes}
 use Rattle.terms.specs.declared.messages.ScopeNumber.{ScopeNumber}
@@ -40,14 +41,16 @@ module _ {m : Meaning} (s : State m) where
   picks_none : (login : ℕ) → in_trip s login no_cause ≡ nobodys
   picks_none login = fun_ext (λ e. and_false (is_open (row s e.login) && reaches (row s e.login).reach e.kind))
 
-  causes_none : (c : Causes) → c.login ≡ 0 → c.acronym ≡ 0 → c ≡ no_cause
-  causes_none c is_l is_a = ap₂ (λ x y. record { login = x; acronym = y }) is_l is_a
+  causes_none : (c : Causes) → true ≡ (eqb c.login 0 && eqb c.acronym 0) → c ≡ no_cause
+  causes_none c none =
+      let both = and_parts (eqb c.login 0) (eqb c.acronym 0) (sym none) in
+      ap₂ (λ x y. record { login = x; acronym = y }) (eqb-true c.login 0 both.0) (eqb-true c.acronym 0 both.1)
 
-  module _ (login : ℕ) (c : Causes) (is_l : c.login ≡ 0) (is_a : c.acronym ≡ 0) where
+  module _ (login : ℕ) (c : Causes) (none : true ≡ (eqb c.login 0 && eqb c.acronym 0)) where
     pub trip_none : s ≡ trip login c s
     trip_none =
         sym
-        (ap (λ (x : Causes). trip login x s) (causes_none c is_l is_a)
+        (ap (λ (x : Causes). trip login x s) (causes_none c none)
         ∙ ap (λ (x : State m). hold_scope (Acronym (row s login).acronym) 0 (hold_scope (Login login) 0 x))
         (ap (λ (b : Book). with_book b s) (ap (λ p. taken_off p s.book) (picks_none login) ∙ none_off s.book))
         ∙ ap (hold_scope (Acronym (row s login).acronym) 0) (hold_none (Login login))
@@ -56,7 +59,7 @@ module _ {m : Meaning} (s : State m) where
     pub trip_none_sum : 0 ≡ totals (in_trip s login c) s.book.resting
     trip_none_sum =
         sym
-        (ap (λ (x : Causes). totals (in_trip s login x) s.book.resting) (causes_none c is_l is_a)
+        (ap (λ (x : Causes). totals (in_trip s login x) s.book.resting) (causes_none c none)
         ∙ ap (λ p. totals p s.book.resting) (picks_none login)
         ∙ none_totals s.book.resting)
 

@@ -11,7 +11,7 @@ use Rattle.gate.specs.Rows.{seen_row}
 -- what is known of a market of type M, and of checks of type C: the members of their traits
 module _ {M C : Type 0} (market : MarketOf M) (checks : ChecksOf C) where
   -- the state of a gate: its own tables, the book of its market and the records of its checks
-  abbrev pub state_of : Gate M C → State checks.meaning
+  abbrev pub state_of : Gate M C market checks → State checks.meaning
   state_of g =
       record {
         time = g.time;
@@ -24,5 +24,5 @@ module _ {M C : Type 0} (market : MarketOf M) (checks : ChecksOf C) where
       }
 
   -- an event leads from what the gate was to what it is
-  abbrev pub Steps : Gate M C → Event → Gate M C → Type 0
+  abbrev pub Steps : Gate M C market checks → Event → Gate M C market checks → Type 0
   Steps before e after = Step (state_of before) e (state_of after)

@@ -4,3 +4,4 @@ pub mod Cuts
 pub mod Entered
 pub mod Tokens
 pub mod Played
+pub mod Sides

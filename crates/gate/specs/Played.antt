@@ -41,19 +41,19 @@ pub record Answered (n : ℕ) (calls : List Call) (before after : List Event) : 
 
 module _ {M C : Type 0} (market : MarketOf M) (checks : ChecksOf C) where
   -- a gate is made over a market in which nothing rests and nothing waits, and over no other
-  abbrev pub Made : M → C → Result (Gate M C) Refusal → Type 0
+  abbrev pub Made : M → C → Result (Gate M C market checks) Refusal → Type 0
   Made m c (Ok g) =
       (market.book m ≡ empty (market.book m).room)
       × (state_of market checks g ≡ new_gate checks.meaning (checks.public c) (market.book m).room)
   Made m c (Err e) = (e ≡ NotEmpty) × (market.book m ≢ empty (market.book m).room)
 
   -- A whole day from a new gate: it is a run, it keeps isolation, contract sum and holds, and its events answer the calls.
-  pub record WholeDay (m : M) (c : C) (g : Gate M C) (calls : List Call) (before after : List Event) : Type 0 where
+  pub record WholeDay (m : M) (c : C) (g : Gate M C market checks) (calls : List Call) (before after : List Event) : Type 0 where
     pub bare : market.book m ≡ empty (market.book m).room
     pub run : Run checks.meaning (checks.public c) (market.book m).room (onto (take (played calls before) after) []) (state_of market checks g)
     pub promised : Promised checks.meaning (checks.public c) (market.book m).room (onto (take (played calls before) after) [])
     pub answered : Answered (played calls before) calls before after
 
-  abbrev pub Day : M → C → Result (Gate M C) Refusal → List Call → (before after : List Event) → Type 0
+  abbrev pub Day : M → C → Result (Gate M C market checks) Refusal → List Call → (before after : List Event) → Type 0
   Day m c (Ok g) calls before after = WholeDay m c g calls before after
   Day m c (Err e) calls before after = (e ≡ NotEmpty) × (market.book m ≢ empty (market.book m).room) × (after ≡ before)

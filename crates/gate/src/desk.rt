@@ -1,5 +1,7 @@
 //! What a gate keeps.
 
+ghost use Rattle.std.specs.Prelude.{◌≡◌, length};
+
 use crate::rows::Row;
 use checks::Check;
 use market::Market;
@@ -13,4 +15,5 @@ pub struct Gate<'g, M: Market, C: Check> {
     pub(crate) valued: [bool; 16],
     pub(crate) rows: [Row; 24],
     pub(crate) holds: [u8; 8],
+    ghost row_each: { length rows ≡ 24 },
 }

@@ -44,8 +44,7 @@ impl<'g, M: Market, C: Check> Gate<'g, M, C> {
     fn is_held(&self, login: u64) -> bool
         ensures { result ≡ is_held (state_of M.Market C.Check self.now) login }
     {
-        let holds = self.holds_on(login);
-        holds.login != 0 || holds.acronym != 0
+        self.holds_on(login) != NO_CAUSE
     }
 
     fn admit_enter(&self, ticket: &Ticket) -> Result<Order, Refusal>

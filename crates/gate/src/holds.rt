@@ -1,6 +1,6 @@
 //! Rows and holds: what a login and a firm stand as, held and released.
 
-ghost use Rattle.std.specs.Prelude.{◌≡◌, true, length};
+ghost use Rattle.std.specs.Prelude.{◌≡◌, true};
 ghost use Rattle.history.specs.State.{row as row_of, hold_of, with_hold, with_row, with_out};
 ghost use Rattle.history.specs.Scopes.{hold_scope, lift_scope, shut, scope_acronym};
 ghost use Rattle.gate.specs.Kept.{state_of};
@@ -13,11 +13,6 @@ use market::Market;
 use terms::{Login, ScopeNumber};
 
 const LOGINS: usize = 24;
-
-// There is a row for each login. Does nothing.
-pub(crate) fn all_rows(_rows: &[Row; 24])
-    ensures { length _rows.now ≡ 24 }
-{}
 
 impl<'g, M: Market, C: Check> Gate<'g, M, C> {
     /// The row of a login; a number that is no login's has that of a free one.
@@ -57,7 +52,6 @@ impl<'g, M: Market, C: Check> Gate<'g, M, C> {
     fn hold_login(&mut self, login: u64, cause: u8)
         ensures { state_of M.Market C.Check self.new ≡ hold_scope (ScopeNumber.Login login) cause (state_of M.Market C.Check self.old) }
     {
-        all_rows(&self.rows);
         if let Some(at) = place(login, LOGINS) {
             self.rows[at].hold(cause);
         }
@@ -66,7 +60,6 @@ impl<'g, M: Market, C: Check> Gate<'g, M, C> {
     fn lift_login(&mut self, login: u64)
         ensures { state_of M.Market C.Check self.new ≡ lift_scope (ScopeNumber.Login login) (state_of M.Market C.Check self.old) }
     {
-        all_rows(&self.rows);
         if let Some(at) = place(login, LOGINS) {
             self.rows[at].lift();
         }
@@ -99,7 +92,6 @@ impl<'g, M: Market, C: Check> Gate<'g, M, C> {
     pub(crate) fn set_out(&mut self, login: Login, out: bool)
         ensures { state_of M.Market C.Check self.new ≡ with_row login.value (with_out out (row_of (state_of M.Market C.Check self.old) login.value)) (state_of M.Market C.Check self.old) }
     {
-        all_rows(&self.rows);
         self.rows[login.index()].set_out(out);
     }
 }

@@ -9,7 +9,6 @@ ghost use Rattle.gate.specs.Kept.{state_of, Steps};
 
 use crate::cuts::Cut;
 use crate::desk::Gate;
-use crate::holds::all_rows;
 use checks::Check;
 use fields::{Kill, scope_fields};
 use market::Market;
@@ -34,7 +33,6 @@ impl<'g, M: Market, C: Check> Gate<'g, M, C> {
         ensures { Steps M.Market C.Check self.old (Event.Kill scope reach block result) self.new }
     {
         let kill = self.admit_kill(scope, reach, block)?;
-        all_rows(&self.rows);
         let cancelled = self.sweep_all(Cut::Kill {
             scope,
             reach: kill.reach,

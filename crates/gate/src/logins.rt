@@ -10,7 +10,6 @@ ghost use Rattle.history.specs.Calls.{refusal};
 ghost use Rattle.gate.specs.Kept.{state_of, Steps};
 
 use crate::desk::Gate;
-use crate::holds::all_rows;
 use crate::rows::{Row, Session, Standing};
 use checks::Check;
 use fields::Opening;
@@ -50,7 +49,6 @@ impl<'g, M: Market, C: Check> Gate<'g, M, C> {
         ensures { Steps M.Market C.Check self.old (Event.Open login acronym role reach result) self.new }
     {
         let opening = self.admit_open(login, acronym, role, reach)?;
-        all_rows(&self.rows);
         self.rows[opening.login.index()] = Row {
             standing: Standing::Open(Session {
                 acronym,
@@ -87,7 +85,6 @@ impl<'g, M: Market, C: Check> Gate<'g, M, C> {
         let acronym = self.row(login).acronym();
         let cancelled = self.market.sweep(leaver, Reach::Both);
         let settled = self.none_wait(leaver);
-        all_rows(&self.rows);
         self.rows[leaver.index()].retire(settled);
         let _ = self.tell(Notice::Closed { acronym, login });
         Ok(cancelled)

@@ -136,8 +136,8 @@ impl<'g, M: Market, C: Check> Gate<'g, M, C> {
         ensures keeps { Keeps (state_of M.Market C.Check self.old) (take result events.new) (state_of M.Market C.Check self.new) }
     {
         let count = calls.len().min(events.len());
-        for i in 0..count {
-            events[i] = self.call(calls[i]);
+        for (i, call) in calls[..count].iter().enumerate() {
+            events[i] = self.call(*call);
         }
         count
     }

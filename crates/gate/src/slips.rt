@@ -9,7 +9,6 @@ ghost use Rattle.history.specs.Calls.{handed_refusal, is_oldest};
 ghost use Rattle.gate.specs.Kept.{state_of, Steps};
 
 use crate::desk::Gate;
-use crate::holds::all_rows;
 use checks::Check;
 use fields::Claim;
 use market::Market;
@@ -78,7 +77,6 @@ impl<'g, M: Market, C: Check> Gate<'g, M, C> {
         let login = self.admit_slip(&fill)?;
         let _ = self.market.drop_slip(login);
         let settled = self.none_wait(login);
-        all_rows(&self.rows);
         self.rows[login.index()].receipt(settled);
         Ok(())
     }

@@ -1,38 +1,27 @@
 //! Strikes: the market trades, and each side is told.
 
 ghost use Rattle.std.specs.Prelude.{◌≡◌};
-ghost use Rattle.market.specs.Market.{buy_side, sell_side};
 ghost use Rattle.history.specs.Strikes.{fill_effect, fill_told};
 ghost use Rattle.gate.specs.Kept.{state_of, Steps};
+ghost use Rattle.gate.specs.Sides.{side_fill};
 
 use crate::desk::Gate;
 use checks::Check;
 use market::Market;
-use terms::{Effect, Event, Fill, Notice, Refusal, Struck, Trade};
+use terms::{Effect, Event, Fill, Notice, Refusal, Side, Struck, Trade};
 
-const BUY: u64 = 1;
-
-const SELL: u64 = 2;
-
-fn buy_side(trade: Trade) -> Fill
-    ensures { result ≡ buy_side trade }
+/// One side of a trade, as its login and the checks are told of it.
+fn side_of(trade: Trade, side: Side) -> Fill
+    ensures { result ≡ side_fill trade side }
 {
+    let party = match side {
+        Side::Buy => trade.buyer,
+        Side::Sell => trade.seller,
+    };
     Fill {
-        login: trade.buyer.login,
-        number: trade.buyer.number,
-        side: BUY,
-        contracts: trade.contracts,
-        price: trade.price,
-    }
-}
-
-fn sell_side(trade: Trade) -> Fill
-    ensures { result ≡ sell_side trade }
-{
-    Fill {
-        login: trade.seller.login,
-        number: trade.seller.number,
-        side: SELL,
+        login: party.login,
+        number: party.number,
+        side: side.into(),
         contracts: trade.contracts,
         price: trade.price,
     }
@@ -55,8 +44,8 @@ impl<'g, M: Market, C: Check> Gate<'g, M, C> {
         let Some(trade) = self.market.strike()? else {
             return Ok(None);
         };
-        let buy = self.fill(buy_side(trade));
-        let sell = self.fill(sell_side(trade));
+        let buy = self.fill(side_of(trade, Side::Buy));
+        let sell = self.fill(side_of(trade, Side::Sell));
         Ok(Some(Struck { trade, buy, sell }))
     }
 }

@@ -73,10 +73,10 @@ impl<'g, M: Market, C: Check> Gate<'g, M, C> {
         let Some(reach) = self.reach_of(cut, login) else {
             return 0;
         };
-        match Login::try_from(login) {
-            Ok(login) => self.market.sweep(login, reach),
-            Err(_) => 0,
-        }
+        let Ok(login) = Login::try_from(login) else {
+            return 0;
+        };
+        self.market.sweep(login, reach)
     }
 
     /// Sweeps all logins of a cut; the contracts that were cancelled.
@@ -85,8 +85,8 @@ impl<'g, M: Market, C: Check> Gate<'g, M, C> {
         ensures after { state_of M.Market C.Check self.new ≡ with_book (swept_up_to (cut_in (state_of M.Market C.Check self.old) cut) 24 (M.Market.book self.old.market.now)) (state_of M.Market C.Check self.old) }
     {
         let mut sum = 0;
-        for place in 0..24u64 {
-            sum += self.sweep_login(cut, place + 1);
+        for login in 1..=24 {
+            sum += self.sweep_login(cut, login);
         }
         sum
     }

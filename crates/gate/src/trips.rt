@@ -7,8 +7,7 @@ ghost use Rattle.gate.specs.Kept.{state_of};
 
 use crate::cuts::Cut;
 use crate::desk::Gate;
-use crate::holds::all_rows;
-use checks::Check;
+use checks::{Check, NO_CAUSE};
 use market::Market;
 use terms::{Causes, Effect, Notice, ScopeNumber};
 
@@ -18,10 +17,9 @@ impl<'g, M: Market, C: Check> Gate<'g, M, C> {
         ensures sum { result ≡ totals (in_trip (state_of M.Market C.Check self.old) login causes) (M.Market.book self.old.market.now).resting }
         ensures after { state_of M.Market C.Check self.new ≡ tripped login causes (state_of M.Market C.Check self.old) }
     {
-        if causes.login == 0 && causes.acronym == 0 {
+        if causes == NO_CAUSE {
             return 0;
         }
-        all_rows(&self.rows);
         let firm = self.row(login).acronym();
         let cancelled = self.sweep_all(Cut::Trip { login, causes });
         self.hold_scope(ScopeNumber::Login(login), causes.login);

@@ -7,7 +7,7 @@ use Rattle.gate.proofs.desk.Gate.hold_login.Goals as goal
 pub returns-in-Some : goal.returns-in-Some
 returns-in-Some g c =
     row_changed _ c.args.self.now.rows refl c.args.login (λ r. with_hold (first_cause r.hold c.args.cause) r) c.in-Some.at _ c.hold.new.self
-    c.all_rows.ensures c.in-Some.ensures.0 c.in-Some.ensures.1 c.hold.ensures
+    c.args.self.now.row_each c.in-Some.ensures.0 c.in-Some.ensures.1 c.hold.ensures
 
 pub returns-in_default : goal.returns-in_default
-returns-in_default g c = row_none _ c.args.self.now.rows refl c.args.login _ c.all_rows.ensures c.in_default.ensures
+returns-in_default g c = row_none _ c.args.self.now.rows refl c.args.login _ c.args.self.now.row_each c.in_default.ensures

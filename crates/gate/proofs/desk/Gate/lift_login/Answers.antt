@@ -7,7 +7,7 @@ use Rattle.gate.proofs.desk.Gate.lift_login.Goals as goal
 pub returns-in-Some : goal.returns-in-Some
 returns-in-Some g c =
     row_changed _ c.args.self.now.rows refl c.args.login (with_hold 0) c.in-Some.at _ c.lift.new.self
-    c.all_rows.ensures c.in-Some.ensures.0 c.in-Some.ensures.1 c.lift.ensures
+    c.args.self.now.row_each c.in-Some.ensures.0 c.in-Some.ensures.1 c.lift.ensures
 
 pub returns-in_default : goal.returns-in_default
-returns-in_default g c = row_none _ c.args.self.now.rows refl c.args.login _ c.all_rows.ensures c.in_default.ensures
+returns-in_default g c = row_none _ c.args.self.now.rows refl c.args.login _ c.args.self.now.row_each c.in_default.ensures

@@ -9,5 +9,5 @@ returns g c =
     let s = state_of g.M.Market g.C.Check c.args.self.now in
     let a = c.in_ok-login.ensures in
     receipts s c.args.self.now.rows c.args.fill _ c.index.result c.none_wait-settled.result _ c.receipt.new.self
-    (g.M.Market.book c.drop_slip.new.self) refl c.all_rows.ensures a.0 a.1 c.index.ensures.place c.index.ensures.bound
+    (g.M.Market.book c.drop_slip.new.self) refl c.args.self.now.row_each a.0 a.1 c.index.ensures.place c.index.ensures.bound
     c.drop_slip.ensures.1 c.none_wait-settled.ensures c.receipt.ensures

@@ -9,4 +9,4 @@ returns g c =
     let place : c.args.login.value ≡ suc c.index.result = omega (arith, c.index.ensures.place) in
     let below : c.index.result < 24 = omega (arith, c.index.ensures.bound) in
     row_changed _ c.args.self.now.rows refl c.args.login.value (with_out c.args.out) c.index.result _ c.set_out.new.self
-    c.all_rows.ensures place below c.set_out.ensures
+    c.args.self.now.row_each place below c.set_out.ensures

@@ -10,8 +10,8 @@ returns-in_default g c =
     let r = left_alone s (cut_in s c.args.cut) c.args.login c.in_default.ensures in
     record { sum = r.sum; small = r.small; after = r.after }
 
-pub returns-in-Ok : goal.returns-in-Ok
-returns-in-Ok g c =
+pub returns : goal.returns
+returns g c =
     let s = state_of g.M.Market g.C.Check c.args.self.now in
     let r = swept_within s (cut_in s c.args.cut) c.args.login _ c.sweep.result _ _ c.in-Ok.ensures.reads.0 c.in-Some.ensures c.sweep.ensures.does c.sweep.ensures.bound in
     record { sum = r.sum; small = r.small; after = r.after }

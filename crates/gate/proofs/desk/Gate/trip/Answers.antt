@@ -7,18 +7,16 @@ use Rattle.gate.specs.Rows.{seen_row}
 use Rattle.gate.proofs.Tripping.{trip_none, trip_none_sum, tripped, tripped_sum}
 use Rattle.gate.proofs.desk.Gate.trip.Goals as goal
 
-pub returns-then-causes-eq0-2 : goal.returns-then-causes-eq0-2
-returns-then-causes-eq0-2 g c =
+pub returns-then-eq : goal.returns-then-eq
+returns-then-eq g c =
     let s = state_of g.M.Market g.C.Check c.args.self.now in
-    record {
-      sum = trip_none_sum s c.args.login c.args.causes c.if-causes-eq0.true c.if-causes-eq0-2.true;
-      after = trip_none s c.args.login c.args.causes c.if-causes-eq0.true c.if-causes-eq0-2.true;
-    }
+    let none = c.if-eq.ensures in
+    record { sum = trip_none_sum s c.args.login c.args.causes none; after = trip_none s c.args.login c.args.causes none }
 
 pub returns : goal.returns
 returns g c =
     let s = state_of g.M.Market g.C.Check c.args.self.now in
-    let len = length_map seen_row c.args.self.now.rows ∙ c.all_rows.ensures in
+    let len = length_map seen_row c.args.self.now.rows ∙ c.args.self.now.row_each in
     record {
       sum = tripped_sum s c.args.login c.sweep_all-cancelled.result c.args.causes len c.sweep_all-cancelled.ensures.sum;
       after =

@@ -36,10 +36,7 @@ fn in_force(limit: u64) -> Option<u64>
 fn is_size(kind: u64) -> bool
     ensures { result ≡ (kind == limit_kind_number OfSize) }
 {
-    match LimitKind::try_from(kind) {
-        Ok(LimitKind::Size) => true,
-        _ => false,
-    }
+    LimitKind::try_from(kind) == Ok(LimitKind::Size)
 }
 
 impl SizeLimits {

@@ -48,12 +48,8 @@ impl Known {
     fn case_of(&self, asked: &Asked) -> Option<Case>
         ensures { result ≡ case_of asked.now self.now.series }
     {
-        let Ok(request) = Request::try_from(request_numbers(asked)) else {
-            return None;
-        };
-        let Some(values) = read_at(&self.series, asked.ticket.series, None) else {
-            return None;
-        };
+        let request = Request::try_from(request_numbers(asked)).ok()?;
+        let values = read_at(&self.series, asked.ticket.series, None)?;
         Some(Case { request, values })
     }
 

@@ -95,8 +95,8 @@ impl<'g, M: Market, C: Check> Gate<'g, M, C> {
             Err(refusal) => return self.refused(ticket.login, refusal),
         };
         let asked = self.asked(ticket);
-        let number = self.checks.judge(asked);
-        if number != 0 {
+        if let Err(turn_down) = self.checks.judge(asked) {
+            let number = turn_down.number() as u8;
             let effect = self.notice(ticket.login, Notice::TurnedDown { asked, number });
             return EnterAnswer::TurnedDown { number, effect };
         }

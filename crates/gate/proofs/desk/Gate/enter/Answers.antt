@@ -1,29 +1,26 @@
 -- Turned down, not taken by the market, or resting. Assumes nothing.
-use Rattle.std.proofs.Common.{refl}
+use Rattle.std.proofs.Common.{◌≡◌, refl, ◌∙◌, arith}
 use Rattle.gate.specs.Kept.{state_of}
 use Rattle.gate.proofs.Entering.{turned_down, rest_refused, rests}
 use Rattle.gate.proofs.desk.Gate.enter.Goals as goal
 
-pub returns-then-number-ne0 : goal.returns-then-number-ne0
-returns-then-number-ne0 g c =
-    let m = g.C.Check.meaning in
+pub returns-in-Err-judge : goal.returns-in-Err-judge
+returns-in-Err-judge g c =
     let s = state_of g.M.Market g.C.Check c.args.self.now in
-    let a = c.in-Ok.ensures in
-    turned_down m s _ c.args.ticket a.0 c.asked-asked.result c.judge-number.result c.asked-asked.ensures c.judge-number.ensures
-    c.notice-effect.result c.if-number-ne0.true c.notice-effect.ensures.effect c.notice-effect.ensures.after
+    let not-0 : c.number-number.result ≡ 0 → ⊥ = λ e. omega (arith, e, c.number-number.ensures, c.in-Err-judge.turn_down.low) in
+    turned_down g.C.Check.meaning s _ c.args.ticket c.in-Ok.ensures.0 c.asked-asked.result c.number-number.result c.asked-asked.ensures
+    (c.number-number.ensures ∙ c.in-Err-judge.ensures) c.notice-effect.result not-0 c.notice-effect.ensures.effect c.notice-effect.ensures.after
 
 pub returns-in-Err-rest : goal.returns-in-Err-rest
 returns-in-Err-rest g c =
-    let m = g.C.Check.meaning in
     let s = state_of g.M.Market g.C.Check c.args.self.now in
     let a = c.in-Ok.ensures in
-    rest_refused m s _ c.args.ticket a.0 c.asked-asked.result c.judge-number.result c.asked-asked.ensures c.judge-number.ensures
-    c.if-number-ne0.false _ _ _ a.1.0 a.1.1 c.in-Err-rest.refusal c.in-Err-rest.ensures refl
+    rest_refused g.C.Check.meaning s _ c.args.ticket a.0 c.asked-asked.result 0 c.asked-asked.ensures c.in_default.ensures refl _ _ _ a.1.0 a.1.1
+    c.in-Err-rest.refusal c.in-Err-rest.ensures refl
 
 pub returns : goal.returns
 returns g c =
-    let m = g.C.Check.meaning in
     let s = state_of g.M.Market g.C.Check c.args.self.now in
     let a = c.in-Ok.ensures in
-    rests m s _ c.args.ticket a.0 c.asked-asked.result c.judge-number.result c.asked-asked.ensures c.judge-number.ensures
-    c.if-number-ne0.false _ _ _ a.1.0 a.1.1 c.notice-effect-2.result c.in_default.ensures c.notice-effect-2.ensures.effect c.notice-effect-2.ensures.after
+    rests g.C.Check.meaning s _ c.args.ticket a.0 c.asked-asked.result 0 c.asked-asked.ensures c.in_default.ensures refl _ _ _ a.1.0 a.1.1
+    c.notice-effect-2.result c.in_default-rest.ensures c.notice-effect-2.ensures.effect c.notice-effect-2.ensures.after

@@ -2,10 +2,5 @@
 use Rattle.gate.proofs.Playing.{keeps_one}
 use Rattle.gate.proofs.desk.Gate.call.Goals as goal
 
-pub returns : goal.returns
-returns g c =
-    record {
-      step = c.answer.ensures.step;
-      asked = c.answer.ensures.asked;
-      keeps = keeps_one g.C.Check.meaning g.C.Check.lawful _ c.answer.result _ c.answer.ensures.step;
-    }
+pub returns-clause-keeps : goal.returns-clause-keeps
+returns-clause-keeps g c = keeps_one g.C.Check.meaning g.C.Check.lawful _ c.answer.result _ c.answer.ensures.step

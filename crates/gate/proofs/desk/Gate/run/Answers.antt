@@ -1,10 +1,7 @@
--- One call more was played, and at the end all were. Assumes nothing.
+-- One call more was played, and all that was played keeps the promises. Assumes nothing.
 use Rattle.std.proofs.Common.{◌≡◌, ◌<◌, length, ◌∙◌, arith, length-take, get_or-take}
-use Rattle.gate.proofs.Playing.{none_yet, one_more, at_end, keeps}
+use Rattle.gate.proofs.Playing.{one_more, at_end, keeps}
 use Rattle.gate.proofs.desk.Gate.run.Goals as goal
-
-pub loop-i-init : goal.loop-i-init
-loop-i-init g c = none_yet _ _ _
 
 pub loop-i-preserved : goal.loop-i-preserved
 loop-i-preserved g c =

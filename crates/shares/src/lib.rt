@@ -7,14 +7,12 @@ ghost use Rattle.shares.specs.Shares.{SharesSum, SharesWithin, SharesLength, Sha
 ghost use Rattle.shares.specs.Rounds.{StrikeTakesNext, StrikeKeepsCovered, RoundGoesOn, RoundTradesShares, RoundTradesAll, StrikeAlone};
 
 /// What holds of all shares: they sum to R, none exceeds its maker's contracts, and there is one for each maker; and worked cases.
-pub fn shares_stand() -> u8
+pub fn shares_stand()
     ensures sum { SharesSum }
     ensures within { SharesWithin }
     ensures length { SharesLength }
     ensures worked { SharesWorked }
-{
-    0
-}
+{}
 
 /// One maker's share of `left`: left × contracts ÷ total, a half rounded up, where total is the contracts of the maker and of those after it; 0 where the total is 0.
 pub fn share(left: u64, contracts: u64, total: u64) -> u64
@@ -30,13 +28,11 @@ pub fn share(left: u64, contracts: u64, total: u64) -> u64
 }
 
 /// What holds of all rounds: each strike trades the next share above 0, and strikes until nothing is left trade exactly the shares, which sum to R.
-pub fn rounds_stand() -> u8
+pub fn rounds_stand()
     ensures next { StrikeTakesNext }
     ensures covered { StrikeKeepsCovered }
     ensures on { RoundGoesOn }
     ensures trades { RoundTradesShares }
     ensures all { RoundTradesAll }
     ensures alone { StrikeAlone }
-{
-    0
-}
+{}

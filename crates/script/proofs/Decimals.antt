@@ -1,11 +1,10 @@
 -- A number that is held to 64 bits digit by digit is the whole number, held to 64 bits. Assumes nothing.
-use Rattle.std.proofs.Common.{◌≡◌, ℕ, ◌+◌, ◌-◌, ◌*◌, ◌^◌, ◌<◌, ◌≤◌, min, Bool, true, false, cond, ◌&&◌, List, [], ◌∷◌, length, get_or, drop, Some, None, decimal as shown, Option, sym, refl, ap, ◌∙◌, inl, inr, arith, rules}
-use Rattle.std.proofs.lemmas.List.{at_drop_more, at_drop_all}
+use Rattle.std.proofs.Common.{◌≡◌, ℕ, ◌+◌, ◌-◌, ◌*◌, ◌^◌, ◌<◌, min, Bool, true, false, cond, ◌&&◌, List, [], ◌∷◌, length, Some, None, decimal as shown, Option, sym, refl, ap, ◌∙◌, inl, inr, arith, rules}
 use Rattle.std.proofs.lemmas.Bool.{cases_Bool, cond-true, cond-false, and_left, both_ways}
 use Rattle.std.proofs.lemmas.Str.Parse.{IsNumeralModel, numerals_by_fold}
 use Rattle.std.proofs.lemmas.Fmt.{decimal_nonempty, digits_decimal, digits_value-decimal}
 use Rattle.script.specs.Words.{all}
-use Rattle.script.specs.Numbers.{digit, digit_value, decimal, decimal_after, largest, number_of, Exact}
+use Rattle.script.specs.Numbers.{digit, decimal, decimal_after, largest, number_of, Exact}
 
 -- one more digit, held to 64 bits at each step
 abbrev pub capped : ℕ → ℕ → ℕ
@@ -36,39 +35,6 @@ read_capped n (b ∷ bs) =
 pub read_whole : (w : List ℕ) → (length w ≡ 0 → ⊥) → read_on 0 w ≡ number_of w
 read_whole [] n = absurd (n refl)
 read_whole (b ∷ bs) n = read_capped 0 (b ∷ bs)
-
-pub empty_no_number : (w : List ℕ) → length w ≡ 0 → None ≡ number_of w
-empty_no_number [] e = refl
-empty_no_number (b ∷ bs) e = absurd (omega arith)
-
--- ---- a turn of the loop
-
-digit_passes : (b d : ℕ) → Some d ≡ digit_value b → (digit b ≡ true) × (b - 48 ≡ d)
-digit_passes b d e =
-    elim (cases_Bool (digit b)) [
-      | inl t ↦ (t, let s : Some d ≡ Some (b - 48) = e ∙ cond-true (digit b) _ _ t in cc)
-      | inr f ↦ absurd (let s : Some d ≡ None = e ∙ cond-false (digit b) _ _ f in let z : ◌≡◌ {A = ℕ} 0 1 = cc in omega arith)
-    ]
-
-digit_fails : (b : ℕ) → None ≡ digit_value b → digit b ≡ false
-digit_fails b e =
-    elim (cases_Bool (digit b)) [
-      | inl t ↦ absurd (let s : None ≡ Some (b - 48) = e ∙ cond-true (digit b) _ _ t in let z : ◌≡◌ {A = ℕ} 0 1 = cc in omega arith)
-      | inr f ↦ f
-    ]
-
--- n becomes v by the digit d, and m is ten times n
-pub read_digit : (n d m v : ℕ) (w : List ℕ) (i : ℕ) → i < length w → Some d ≡ digit_value (get_or w i 0) → m ≡ min (n * 10) largest → v ≡ min (m + d) largest → read_on v (drop (i + 1) w) ≡ read_on n (drop i w)
-read_digit n d m v w i h e tens next =
-    let p = digit_passes (get_or w i 0) d e in
-    let step : v ≡ capped n (get_or w i 0 - 48) = cc p.1 in
-    ap (λ x. read_on x (drop (i + 1) w)) step ∙ sym (at_drop_more (read_on n) w i 0 h ∙ cond-true (digit (get_or w i 0)) _ _ p.0)
-
-pub read_other : (n : ℕ) (w : List ℕ) (i : ℕ) → i < length w → None ≡ digit_value (get_or w i 0) → read_on n (drop i w) ≡ None
-read_other n w i h e = at_drop_more (read_on n) w i 0 h ∙ cond-false (digit (get_or w i 0)) _ _ (digit_fails (get_or w i 0) e)
-
-pub read_all : (n : ℕ) (w : List ℕ) (i : ℕ) → length w ≤ i → read_on n (drop i w) ≡ Some n
-read_all n w i h = at_drop_all (read_on n) w i h
 
 -- ---- laws
 

@@ -1,10 +1,8 @@
 -- Blanks in front of a text do not matter, and a run of plain bytes is its first word. Assumes nothing.
-use Rattle.std.proofs.Common.{◌≡◌, ℕ, suc, ◌+◌, ◌-◌, ◌≤◌, Bool, true, false, cond, not, List, [], ◌∷◌, length, take, drop, sym, refl, ap, ◌∙◌, inl, inr, one-add, arith}
+use Rattle.std.proofs.Common.{◌≡◌, ℕ, suc, Bool, true, false, cond, not, List, [], ◌∷◌, take, drop, sym, refl, ap, ◌∙◌, inl, inr, one-add, arith}
 use Rattle.std.specs.List.{prefix_len}
-use Rattle.std.proofs.lemmas.List.{drop-drop}
-use Rattle.std.proofs.lemmas.Bool.{cases_Bool, cases_lt, cond-true, cond-false, not-true, not-false, and_parts, and_cases, both_ways, ne_eqb}
-use Rattle.script.specs.Words.{blank, ends, plain, begins, glued, words, run_end}
-use Rattle.script.proofs.Runs.{run_at_end, run_within}
+use Rattle.std.proofs.lemmas.Bool.{cases_Bool, cond-true, cond-false, not-true, not-false, and_parts, and_cases, both_ways, ne_eqb}
+use Rattle.script.specs.Words.{blank, ends, plain, begins, glued, words}
 
 -- ---- one byte
 
@@ -85,24 +83,18 @@ word_taken (b ∷ bs) t =
           words_in_word b bs t ∙ cond-false (begins bs) _ _ f ∙ ap (λ n. cut n (b ∷ bs)) (sym (run_more plain b bs t ∙ ap suc (no_run bs f)))
     ]
 
--- ---- from a place on: j is where the blanks end, and k where the word ends
+-- ---- n blanks stand first, then a text that begins with k bytes of a word
 
-module _ (xs : List ℕ) (i j k : ℕ) (blanks : j ≡ run_end blank xs i) (word : k ≡ run_end plain xs j) where
-  same_words : words (drop i xs) ≡ words (drop j xs)
-  same_words =
-      blanks_passed (drop i xs) ∙ ap words (drop-drop (prefix_len blank (drop i xs)) i xs) ∙ ap (λ n. words (drop n xs)) (sym blanks)
+module _ (line text : List ℕ) (n k : ℕ) (blanks : n ≡ prefix_len blank line) (from : text ≡ drop n line) (run : k ≡ prefix_len plain text) where
+  past : text ≡ drop (prefix_len blank line) line
+  past = from ∙ ap (λ i. drop i line) blanks
 
-  pub no_word : j ≡ k → words (drop i xs) ≡ []
-  no_word e =
-      same_words ∙ nothing_left (drop j xs) (ap (λ n. prefix_len blank (drop n xs)) blanks ∙ ap (prefix_len blank) (sym (drop-drop (prefix_len blank (drop i xs)) i xs)) ∙ no_blank_after (drop i xs)) (omega arith)
+  same_words : words line ≡ words text
+  same_words = blanks_passed line ∙ ap words (sym past)
 
-  pub first_word : (j ≡ k → ⊥) → words (drop i xs) ≡ take (k - j) (drop j xs) ∷ words (drop k xs)
-  first_word ne =
-      let run : prefix_len plain (drop j xs) ≡ k - j = omega arith in
-      let past : j + (k - j) ≡ k = omega arith in
-      same_words ∙ word_taken (drop j xs) (run_begins (drop j xs) (λ z. ne (omega arith))) ∙ ap (λ n. cut n (drop j xs)) run ∙ ap (λ ys. take (k - j) (drop j xs) ∷ words ys) (drop-drop (k - j) j xs ∙ ap (λ n. drop n xs) past)
+  pub no_word : k ≡ 0 → words line ≡ []
+  no_word none = same_words ∙ nothing_left text (ap (prefix_len blank) past ∙ no_blank_after line) (sym run ∙ none)
 
-  pub word_within : (j ≡ k → ⊥) → k ≤ length xs
-  word_within ne =
-      elim (cases_lt j (length xs))
-      [ inl l ↦ omega (arith, run_within plain xs j) | inr g ↦ absurd (ne (sym (word ∙ run_at_end plain xs j g))) ]
+  pub first_word : (word rest : List ℕ) → (k ≡ 0 → ⊥) → word ≡ take k text → rest ≡ drop k text → words line ≡ word ∷ words rest
+  first_word word rest some front back =
+      same_words ∙ word_taken text (run_begins text (λ none. some (run ∙ none))) ∙ ap (λ i. cut i text) (sym run) ∙ ap (λ w. w ∷ words (drop k text)) (sym front) ∙ ap (λ ys. word ∷ words ys) (sym back)

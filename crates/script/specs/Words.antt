@@ -1,7 +1,6 @@
 -- The words of a line, and how a line is laid out as words. Assumes nothing.
-use Rattle.std.specs.Prelude.{◌≡◌, ℕ, ◌+◌, Bool, true, false, cond, not, ◌&&◌, ◌||◌, List, [], ◌∷◌, ◌++◌, drop, Some, None, Option, ◌==◌}
+use Rattle.std.specs.Prelude.{◌≡◌, ℕ, Bool, true, false, cond, not, ◌&&◌, ◌||◌, List, [], ◌∷◌, ◌++◌, Some, None, Option, ◌==◌}
 use Rattle.std.specs.Borrow.{Bor}
-use Rattle.std.specs.List.{prefix_len}
 use Rattle.script.specs.declared.reader.Reader.{Reader}
 
 -- ---- bytes
@@ -23,10 +22,6 @@ abbrev pub all : (ℕ → Bool) → List ℕ → Bool
 all test [] = true
 all test (b ∷ bs) = test b && all test bs
 
--- where the bytes that pass a test, from a place on, end
-abbrev pub run_end : (ℕ → Bool) → List ℕ → ℕ → ℕ
-run_end test line from = from + prefix_len test (drop from line)
-
 -- ---- words
 
 -- a byte of a word stands first
@@ -47,7 +42,7 @@ words (b ∷ bs) =
 
 -- what a reader has still to give
 abbrev pub remaining : Reader → List (List ℕ)
-remaining r = words (drop r.at r.line.now)
+remaining r = words r.rest.now
 
 -- a call gives the first word and leaves the others; where there is none, it leaves none
 abbrev pub Gives : (before : List (List ℕ)) → Option (Bor (List ℕ)) → (after : List (List ℕ)) → Type 0

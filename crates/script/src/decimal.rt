@@ -1,18 +1,19 @@
-// The number that a word writes. Assumes nothing.
+//! The number that a word writes.
+
 ghost use Rattle.std.specs.Prelude.{◌≡◌};
 ghost use Rattle.script.specs.Numbers.{digit_value, number_of, Exact};
 
-// What a digit counts.
+/// What a digit counts.
 fn digit_value(byte: u8) -> Option<u64>
     ensures { result ≡ digit_value byte }
 {
     match byte {
-        b'0'..=b'9' => Some((byte - b'0') as u64),
+        b'0'..=b'9' => Some(u64::from(byte - b'0')),
         _ => None,
     }
 }
 
-// The number that a word of digits writes. One that does not fit is read as the largest that does.
+/// The number that a word of digits writes. One that does not fit is read as the largest that does.
 pub fn number(word: &[u8]) -> Option<u64>
     ensures value { result ≡ number_of word.now }
     ensures exact { Exact word.now result }

@@ -1,5 +1,7 @@
+//! The words and numbers of one line of a text script.
+
 #![tactic(auto)]
-// The words and numbers of one line of a text script. Assumes nothing.
+
 mod decimal;
 mod fields;
 mod reader;

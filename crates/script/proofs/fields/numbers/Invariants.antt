@@ -7,4 +7,4 @@ use Rattle.script.proofs.fields.numbers.Given as goal
 
 abbrev pub invariant-loop-field : goal.invariant-loop-field
 invariant-loop-field g l =
-    (length l.numbers ≡ g.row.N) × (numbers_in g.row.N 0 (remaining l.initial.reader) ≡ after (take l.field l.numbers) (numbers_in (g.row.N - l.field) l.field (remaining l.reader)))
+    (length l.place-items ≡ g.row.N) × (numbers_in g.row.N 0 (remaining l.initial.reader) ≡ after (take l.field l.place-items) (numbers_in (g.row.N - l.field) l.field (remaining l.reader)))

@@ -1,7 +1,6 @@
--- From its first place on a line has all its words. Assumes nothing.
-use Rattle.std.proofs.Common.{refl}
+-- A line is laid out as its words. Assumes nothing.
 use Rattle.script.proofs.Parting.{parted}
 use Rattle.script.proofs.reader.Reader.new.Goals as goal
 
-pub returns : goal.returns
-returns c = record { value = refl; parted = parted c.args.line.now }
+pub returns-clause-parted : goal.returns-clause-parted
+returns-clause-parted c = parted c.args.line.now

@@ -13,6 +13,7 @@ use Rattle.terms.specs.Tables.{at, put}
 use Rattle.ledger.specs.declared.sums.Sums.{Sums}
 use Rattle.ledger.specs.declared.postings.Item.{Item}
 use Rattle.ledger.specs.declared.postings.Posting.{Posting}
+use Rattle.ledger.specs.declared.postings.Posting.TheVariants.{Opened, Contracts, Sides}
 use Rattle.ledger.specs.Sums.{sums, nothing, plus}
 
 -- ---- one event
@@ -20,75 +21,85 @@ use Rattle.ledger.specs.Sums.{sums, nothing, plus}
 abbrev pub item : ScopeNumber → Sums → Item
 item scope s = record { scope = scope; sums = s }
 
-abbrev pub blank : Item
-blank = item (Acronym 0) nothing
-
 abbrev pub cancelling : ScopeNumber → ℕ → Item
 cancelling scope n = item scope (sums 0 0 n)
 
-abbrev pub writing : Item → Item → Posting
-writing first second = record { login = 0; acronym = 0; first = first; second = second }
-
-abbrev pub nil : Posting
-nil = writing blank blank
-
-abbrev pub opening : (login acronym : ℕ) → Result (Unit {0}) Refusal → Posting
-opening login acronym (Ok u) = record { login = login; acronym = acronym; first = blank; second = blank }
-opening login acronym (Err e) = nil
-
-abbrev pub taking_off : ScopeNumber → Result ℕ Refusal → Posting
-taking_off scope (Ok n) = writing (cancelling scope n) blank
-taking_off scope (Err e) = nil
-
 -- an entry that is accepted counts with all its contracts, also where the same call sweeps it again
-abbrev pub entering : Ticket → EnterAnswer → Posting
-entering t r = writing (item (Login t.login) (sums (cond (r.number == 0) t.contracts 0) 0 r.effect.cancelled)) blank
+abbrev pub accepting : Ticket → EnterAnswer → Item
+accepting t r = item (Login t.login) (sums (cond (r.number == 0) t.contracts 0) 0 r.effect.cancelled)
 
-abbrev pub striking : Result (Option Struck) Refusal → Posting
-striking (Ok None) = nil
-striking (Ok (Some x)) =
-    writing (cancelling (Login x.trade.buyer.login) x.buy.cancelled) (cancelling (Login x.trade.seller.login) x.sell.cancelled)
-striking (Err e) = nil
+abbrev pub receipting : Fill → Item
+receipting f = item (Login f.login) (sums 0 f.contracts 0)
 
-abbrev pub receipting : Fill → Result (Unit {0}) Refusal → Posting
-receipting f (Ok u) = writing (item (Login f.login) (sums 0 f.contracts 0)) blank
-receipting f (Err e) = nil
+-- what a call comes to that is answered at all, and nothing where it is refused
+abbrev pub if_done : {X : Type 0} → Result X Refusal → (X → Option Posting) → Option Posting
+if_done (Ok x) f = f x
+if_done (Err e) f = None
 
-abbrev pub posting : Event → Posting
-posting (Tick t r) = nil
-posting (Values n v r) = nil
-posting (Open l a role reach r) = opening l a r
-posting (Retire l r) = taking_off (Login l) r
-posting (Limit x r) = nil
-posting (Enter t r) = entering t r
-posting (Cancel l n r) = taking_off (Login l) r
-posting (Strike r) = striking r
-posting (Take l r) = nil
-posting (Receipt f r) = receipting f r
-posting (PutBack f r) = nil
-posting (Kill s reach block r) = taking_off s r
-posting (Release s r) = nil
+abbrev pub striking : Option Struck → Option Posting
+striking None = None
+striking (Some x) =
+    Some (Sides (cancelling (Login x.trade.buyer.login) x.buy.cancelled) (cancelling (Login x.trade.seller.login) x.sell.cancelled))
+
+abbrev pub posting : Event → Option Posting
+posting (Tick t r) = None
+posting (Values n v r) = None
+posting (Open l a role reach r) = if_done r (λ u. Some (Opened l a))
+posting (Retire l r) = if_done r (λ n. Some (Contracts (cancelling (Login l) n)))
+posting (Limit x r) = None
+posting (Enter t r) = Some (Contracts (accepting t r))
+posting (Cancel l n r) = if_done r (λ k. Some (Contracts (cancelling (Login l) k)))
+posting (Strike r) = if_done r striking
+posting (Take l r) = None
+posting (Receipt f r) = if_done r (λ u. Some (Contracts (receipting f)))
+posting (PutBack f r) = None
+posting (Kill s reach block r) = if_done r (λ n. Some (Contracts (cancelling s n)))
+posting (Release s r) = None
 
 -- ---- a day, the newest event first
 
--- the firm that each of 24 logins was last opened for, 0 for none
-abbrev pub holders : List Event → List ℕ
-holders [] = replicate 24 0
-holders (e ∷ h) = put (holders h) (posting e).login (posting e).acronym
+-- an opening gives its login to its firm
+abbrev pub held_after : Option Posting → List (Option ℕ) → List (Option ℕ)
+held_after None table = table
+held_after (Some (Opened l a)) table = put table l (Some a)
+held_after (Some (Contracts i)) table = table
+held_after (Some (Sides i j)) table = table
 
-abbrev pub whose : List ℕ → ScopeNumber → ℕ
-whose table (Login l) = at 0 table l
-whose table (Acronym a) = a
+-- the firm that each of 24 logins was last opened for
+abbrev pub holders : List Event → List (Option ℕ)
+holders [] = replicate 24 None
+holders (e ∷ h) = held_after (posting e) (holders h)
+
+abbrev pub whose : List (Option ℕ) → ScopeNumber → Option ℕ
+whose table (Login l) = at None table l
+whose table (Acronym a) = Some a
+
+abbrev pub is_firm : (a : ℕ) → Option ℕ → Bool
+is_firm a None = false
+is_firm a (Some b) = b == a
 
 -- what of an item is the firm a's
-abbrev pub share : (a : ℕ) → List ℕ → Item → Sums
-share a table i = cond (whose table i.scope == a) i.sums nothing
+abbrev pub share : (a : ℕ) → List (Option ℕ) → Item → Sums
+share a table i = cond (is_firm a (whose table i.scope)) i.sums nothing
+
+-- the firm a's contracts with what a posting adds to them
+abbrev pub total_after : (a : ℕ) → List (Option ℕ) → Option Posting → Sums → Sums
+total_after a table None s = s
+total_after a table (Some (Opened l b)) s = s
+total_after a table (Some (Contracts i)) s = plus (share a table i) s
+total_after a table (Some (Sides i j)) s = plus (share a table j) (plus (share a table i) s)
 
 abbrev pub total : (a : ℕ) → List Event → Sums
 total a [] = nothing
-total a (e ∷ h) = plus (share a (holders h) (posting e).second) (plus (share a (holders h) (posting e).first) (total a h))
+total a (e ∷ h) = total_after a (holders h) (posting e) (total a h)
+
+abbrev pub opens : (a : ℕ) → Option Posting → Bool
+opens a None = false
+opens a (Some (Opened l b)) = b == a
+opens a (Some (Contracts i)) = false
+opens a (Some (Sides i j)) = false
 
 -- a login was opened for the firm a
 abbrev pub opened : (a : ℕ) → List Event → Bool
 opened a [] = false
-opened a (e ∷ h) = (posting e).acronym == a || opened a h
+opened a (e ∷ h) = opens a (posting e) || opened a h

@@ -1,10 +1,10 @@
 //! What the ledger writes down of an event.
 
-ghost use Rattle.std.specs.Prelude.{◌≡◌, Some, Ok};
-ghost use Rattle.ledger.specs.Postings.{cancelling, writing, opening as opened, entering, receipting, striking, posting};
+ghost use Rattle.std.specs.Prelude.{◌≡◌};
+ghost use Rattle.ledger.specs.Postings.{cancelling, accepting, receipting, posting};
 
 use crate::sums::Sums;
-use terms::{EnterAnswer, Event, Fill, ScopeNumber, Struck, Ticket};
+use terms::{EnterAnswer, Event, Fill, ScopeNumber, Ticket};
 
 /// Contracts of a firm, or of the firm that a login was opened for.
 #[derive(Clone, Copy)]
@@ -13,136 +13,104 @@ pub(crate) struct Item {
     pub(crate) sums: Sums,
 }
 
-/// The login that is opened and the firm that it is opened for, 0 where none is; and contracts, of the two sides of a trade or of one firm.
-#[derive(Clone, Copy)]
-pub(crate) struct Posting {
-    pub(crate) login: u64,
-    pub(crate) acronym: u64,
-    pub(crate) first: Item,
-    pub(crate) second: Item,
-}
-
-const NOBODY: ScopeNumber = ScopeNumber::Acronym(0);
-
-const BLANK: Item = Item {
-    scope: NOBODY,
-    sums: Sums::NOTHING,
-};
-
-fn cancelled(scope: ScopeNumber, contracts: u32) -> Item
-    ensures { result ≡ cancelling scope contracts }
-{
-    Item {
-        scope,
-        sums: Sums {
-            accepted: 0,
-            receipted: 0,
-            cancelled: contracts as u64,
-        },
-    }
-}
-
-fn writes(first: Item, second: Item) -> Posting
-    ensures { result ≡ writing first second }
-{
-    Posting {
-        login: 0,
-        acronym: 0,
-        first,
-        second,
-    }
-}
-
-fn opening(login: u64, acronym: u64) -> Posting
-    ensures { result ≡ opened login acronym (Ok tt) }
-{
-    Posting {
-        login,
-        acronym,
-        first: BLANK,
-        second: BLANK,
-    }
-}
-
-fn entered(ticket: Ticket, answer: EnterAnswer) -> Item
-    ensures { result ≡ (entering ticket answer).first }
-{
-    let accepted = if answer.number == 0 {
-        ticket.contracts
-    } else {
-        0
-    };
-    Item {
-        scope: ScopeNumber::Login(ticket.login),
-        sums: Sums {
-            accepted,
-            receipted: 0,
-            cancelled: answer.effect.cancelled as u64,
-        },
-    }
-}
-
-fn receipted(fill: Fill) -> Item
-    ensures { result ≡ (receipting fill (Ok tt)).first }
-{
-    Item {
-        scope: ScopeNumber::Login(fill.login),
-        sums: Sums {
-            accepted: 0,
-            receipted: fill.contracts,
-            cancelled: 0,
-        },
-    }
-}
-
-fn struck_sides(struck: Struck) -> Posting
-    ensures { result ≡ striking (Ok (Some struck)) }
-{
-    writes(
-        cancelled(
-            ScopeNumber::Login(struck.trade.buyer.login),
-            struck.buy.cancelled,
-        ),
-        cancelled(
-            ScopeNumber::Login(struck.trade.seller.login),
-            struck.sell.cancelled,
-        ),
-    )
-}
-
-/// What an event comes to: nothing, unless it opens a login or has contracts accepted, receipted or cancelled.
-pub(crate) fn posting_of(event: &Event) -> Posting
-    ensures { result ≡ posting event.now }
-{
-    match *event {
-        Event::Open {
-            login,
-            acronym,
-            answer: Ok(()),
-            ..
-        } => opening(login, acronym),
-        Event::Retire {
-            login,
-            answer: Ok(contracts),
-        } => writes(cancelled(ScopeNumber::Login(login), contracts), BLANK),
-        Event::Cancel {
-            login,
-            answer: Ok(contracts),
-            ..
-        } => writes(cancelled(ScopeNumber::Login(login), contracts), BLANK),
-        Event::Kill {
+impl Item {
+    fn cancelled(scope: ScopeNumber, contracts: u32) -> Item
+        ensures { result ≡ cancelling scope contracts }
+    {
+        Item {
             scope,
-            answer: Ok(contracts),
-            ..
-        } => writes(cancelled(scope, contracts), BLANK),
-        Event::Enter { ticket, answer } => writes(entered(ticket, answer), BLANK),
-        Event::Receipt {
-            fill,
-            answer: Ok(()),
-        } => writes(receipted(fill), BLANK),
-        Event::Strike {
-            answer: Ok(Some(struck)),
-        } => struck_sides(struck),
-        _ => writes(BLANK, BLANK),
+            sums: Sums {
+                cancelled: u64::from(contracts),
+                ..Sums::default()
+            },
+        }
+    }
+
+    fn entered(ticket: Ticket, answer: EnterAnswer) -> Item
+        ensures { result ≡ accepting ticket answer }
+    {
+        let accepted = if answer.number == 0 {
+            ticket.contracts
+        } else {
+            0
+        };
+        Item {
+            scope: ScopeNumber::Login(ticket.login),
+            sums: Sums {
+                accepted,
+                cancelled: u64::from(answer.effect.cancelled),
+                ..Sums::default()
+            },
+        }
+    }
+
+    fn receipted(fill: Fill) -> Item
+        ensures { result ≡ receipting fill }
+    {
+        Item {
+            scope: ScopeNumber::Login(fill.login),
+            sums: Sums {
+                receipted: fill.contracts,
+                ..Sums::default()
+            },
+        }
+    }
+}
+
+/// What is written down of an event.
+#[derive(Clone, Copy)]
+pub(crate) enum Posting {
+    /// A login is opened for a firm.
+    Opened { login: u64, acronym: u64 },
+    /// Contracts are accepted, receipted or cancelled.
+    Contracts(Item),
+    /// Contracts of the two sides of a trade are cancelled with it.
+    Sides { buyer: Item, seller: Item },
+}
+
+impl Posting {
+    /// What an event comes to: nothing, unless it opens a login or has contracts accepted, receipted or cancelled.
+    pub(crate) fn of(event: &Event) -> Option<Posting>
+        ensures { result ≡ posting event.now }
+    {
+        let posting = match *event {
+            Event::Open {
+                login,
+                acronym,
+                answer: Ok(()),
+                ..
+            } => Posting::Opened { login, acronym },
+            Event::Retire {
+                login,
+                answer: Ok(contracts),
+            }
+            | Event::Cancel {
+                login,
+                answer: Ok(contracts),
+                ..
+            } => Posting::Contracts(Item::cancelled(ScopeNumber::Login(login), contracts)),
+            Event::Kill {
+                scope,
+                answer: Ok(contracts),
+                ..
+            } => Posting::Contracts(Item::cancelled(scope, contracts)),
+            Event::Enter { ticket, answer } => Posting::Contracts(Item::entered(ticket, answer)),
+            Event::Receipt {
+                fill,
+                answer: Ok(()),
+            } => Posting::Contracts(Item::receipted(fill)),
+            Event::Strike {
+                answer: Ok(Some(struck)),
+            } => {
+                let buyer = ScopeNumber::Login(struck.trade.buyer.login);
+                let seller = ScopeNumber::Login(struck.trade.seller.login);
+                Posting::Sides {
+                    buyer: Item::cancelled(buyer, struck.buy.cancelled),
+                    seller: Item::cancelled(seller, struck.sell.cancelled),
+                }
+            }
+            _ => return None,
+        };
+        Some(posting)
     }
 }

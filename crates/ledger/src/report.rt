@@ -1,15 +1,15 @@
-//! What the evening hands over, line by line: the logins by their standing, and what each firm's contracts came to.
+//! The lines of the hand-over: which logins stand how, and what a firm's contracts came to.
 
-ghost use Rattle.std.specs.Prelude.{◌≡◌, ◌+◌, cond, Some};
+ghost use Rattle.std.specs.Prelude.{◌≡◌, Some};
 ghost use Rattle.std.specs.Fmt.{WritesOnOk};
-ghost use Rattle.terms.specs.Tables.{any_of};
-ghost use Rattle.ledger.specs.Report.{word_of, among, is_among, entry_text, listed, or_none, logins_text, firm_text};
+ghost use Rattle.std.specs.List.{list_any};
+ghost use Rattle.ledger.specs.Report.{word_of, is_among, firm_of, entry_text, listed, logins_text, firm_text};
 
 use crate::sums::Sums;
 use std::fmt;
 
 /// How a login stands: it may be given out, or it is a firm's.
-#[derive(Clone, Copy)]
+#[derive(Clone, Copy, Debug, PartialEq, Eq)]
 pub enum Standing {
     Free,
     Open { acronym: u64 },
@@ -17,70 +17,73 @@ pub enum Standing {
 }
 
 /// Which logins a line lists.
-#[derive(Clone, Copy)]
+#[derive(Clone, Copy, Debug, PartialEq, Eq)]
 pub enum Listing {
     Free,
     Open,
     Leaving,
 }
 
-fn listing_word(listing: Listing) -> &'static str
-    ensures { result.now ≡ word_of listing }
-{
-    match listing {
-        Listing::Free => "free",
-        Listing::Open => "open",
-        Listing::Leaving => "leaving",
+impl fmt::Display for Listing {
+    ghost output = { λ x. Some (word_of x) };
+
+    fn fmt<W: fmt::Write>(&self, f: &mut fmt::Formatter<W>) -> fmt::Result {
+        f.write_str(match *self {
+            Listing::Free => "free",
+            Listing::Open => "open",
+            Listing::Leaving => "leaving",
+        })
     }
 }
 
-/// Where a login stands in a listing: by itself, or with its firm.
-#[derive(Clone, Copy)]
-enum Entry {
-    Alone,
-    Of { acronym: u64 },
-}
+impl Standing {
+    /// Whether a login that stands so is listed.
+    fn is_among(self, listing: Listing) -> bool
+        ensures { result ≡ is_among listing self }
+    {
+        matches!(
+            (listing, self),
+            (Listing::Free, Standing::Free)
+                | (Listing::Open, Standing::Open { .. })
+                | (Listing::Leaving, Standing::Leaving { .. })
+        )
+    }
 
-fn entry_in(listing: Listing, standing: Standing) -> Option<Entry>
-    ensures { result ≡ among listing standing }
-{
-    match (listing, standing) {
-        (Listing::Free, Standing::Free) => Some(Entry::Alone),
-        (Listing::Open, Standing::Open { acronym }) => Some(Entry::Of { acronym }),
-        (Listing::Leaving, Standing::Leaving { acronym }) => Some(Entry::Of { acronym }),
-        _ => None,
+    /// The firm that an open or a leaving login is listed with.
+    fn acronym(self) -> Option<u64>
+        ensures { result ≡ firm_of self }
+    {
+        match self {
+            Standing::Free => None,
+            Standing::Open { acronym } | Standing::Leaving { acronym } => Some(acronym),
+        }
     }
 }
 
-/// A login of a listing, after a space; one that is not of it prints nothing.
+/// A login that is listed, after a space, with its firm if it is one's.
 #[derive(Clone, Copy)]
-struct Listed {
+struct Entry {
     login: usize,
-    entry: Option<Entry>,
+    acronym: Option<u64>,
 }
 
-impl fmt::Display for Listed {
-    ghost output = { λ x. Some (entry_text x.login x.entry) };
+impl fmt::Display for Entry {
+    ghost output = { λ x. Some (entry_text x.login x.acronym) };
 
     fn fmt<W: fmt::Write>(&self, f: &mut fmt::Formatter<W>) -> fmt::Result {
         let login = self.login;
-        match self.entry {
-            Some(Entry::Alone) => write!(f, " {login}"),
-            Some(Entry::Of { acronym }) => write!(f, " {login} (acronym {acronym})"),
-            None => Ok(()),
+        match self.acronym {
+            None => write!(f, " {login}"),
+            Some(acronym) => write!(f, " {login} (acronym {acronym})"),
         }
     }
 }
 
+/// Whether a login is listed.
 fn any_among(listing: Listing, standings: &[Standing]) -> bool
-    ensures { result ≡ any_of (is_among listing) standings.now }
+    ensures { result ≡ list_any (is_among listing) standings.now }
 {
-    for standing in standings {
-        if entry_in(listing, *standing).is_some() {
-            return true;
-        }
-    }
-    false
+    standings.iter().any(|standing| standing.is_among(listing))
 }
 
 /// Writes the logins that are listed; the first of the slice is login 1.
@@ -91,16 +94,14 @@ fn write_listed<W: fmt::Write>(
 ) -> fmt::Result
     ensures { WritesOnOk W.Write.write_str_gives f.old result (listed listing 1 standings.now) f.new }
 {
-    for i in 0..standings.len() {
-        let entry = entry_in(listing, standings[i]);
-        write!(
-            f,
-            "{}",
-            Listed {
-                login: i + 1,
-                entry
-            }
-        )?;
+    for (place, standing) in standings.iter().enumerate() {
+        if standing.is_among(listing) {
+            let entry = Entry {
+                login: place + 1,
+                acronym: standing.acronym(),
+            };
+            write!(f, "{entry}")?;
+        }
     }
     Ok(())
 }
@@ -112,28 +113,17 @@ pub struct Logins<'a> {
     pub standings: &'a [Standing],
 }
 
-/// The same without its word.
-#[derive(Clone, Copy)]
-struct Numbers<'a>(Logins<'a>);
-
-impl fmt::Display for Numbers<'_> {
-    ghost output = { λ x. Some (or_none x.0.listing x.0.standings.now) };
+impl fmt::Display for Logins<'_> {
+    ghost output = { λ x. Some (logins_text x.listing x.standings.now) };
 
     fn fmt<W: fmt::Write>(&self, f: &mut fmt::Formatter<W>) -> fmt::Result {
-        let Logins { listing, standings } = self.0;
+        let Logins { listing, standings } = *self;
+        write!(f, "{listing}:")?;
         if any_among(listing, standings) {
             write_listed(listing, standings, f)
         } else {
             write!(f, " none")
         }
-    }
-}
-
-impl fmt::Display for Logins<'_> {
-    ghost output = { λ x. Some (logins_text x.listing x.standings.now) };
-
-    fn fmt<W: fmt::Write>(&self, f: &mut fmt::Formatter<W>) -> fmt::Result {
-        write!(f, "{}:{}", listing_word(self.listing), Numbers(*self))
     }
 }
 

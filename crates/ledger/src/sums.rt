@@ -3,7 +3,7 @@
 ghost use Rattle.std.specs.Prelude.{◌≡◌, ◌-◌};
 ghost use Rattle.ledger.specs.Sums.{plus, held};
 
-#[derive(Clone, Copy)]
+#[derive(Clone, Copy, Debug, Default, PartialEq, Eq)]
 pub struct Sums {
     pub accepted: u64,
     pub receipted: u64,
@@ -11,14 +11,8 @@ pub struct Sums {
 }
 
 impl Sums {
-    pub const NOTHING: Sums = Sums {
-        accepted: 0,
-        receipted: 0,
-        cancelled: 0,
-    };
-
     /// Both together. What does not fit 64 bits stays at the largest number.
-    pub(crate) fn plus(self, other: Sums) -> Sums
+    pub(crate) fn saturating_add(self, other: Sums) -> Sums
         ensures { result ≡ held (plus self other) }
     {
         Sums {

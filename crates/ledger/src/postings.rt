@@ -29,16 +29,15 @@ impl Item {
     fn entered(ticket: Ticket, answer: EnterAnswer) -> Item
         ensures { result ≡ accepting ticket answer }
     {
-        let accepted = if answer.number == 0 {
-            ticket.contracts
-        } else {
-            0
+        let accepted = match answer {
+            EnterAnswer::Accepted { .. } => ticket.contracts,
+            EnterAnswer::TurnedDown { .. } | EnterAnswer::Refused { .. } => 0,
         };
         Item {
             scope: ScopeNumber::Login(ticket.login),
             sums: Sums {
                 accepted,
-                cancelled: u64::from(answer.effect.cancelled),
+                cancelled: u64::from(answer.effect().cancelled),
                 ..Sums::default()
             },
         }

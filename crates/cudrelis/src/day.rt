@@ -12,7 +12,6 @@ use size_market::SizeMarket;
 use standard::standard_pile;
 use std::fmt::Write;
 use std::io::Read;
-use tables::long_enough;
 use terms::{Call, Contracts, Entry, Event, Kind, Login, OrderNumber, Price, Refusal, Side, Slip};
 use time_market::TimeMarket;
 
@@ -35,15 +34,16 @@ pub(crate) enum Priority {
 /// What fills a table before a market takes it.
 fn filler() -> Result<Entry, Refusal> {
     Ok(Entry {
-        login: Login::from_number(1)?,
-        number: OrderNumber::from_number(1)?,
+        login: Login::try_from(1)?,
+        number: OrderNumber::try_from(1)?,
         side: Side::Buy,
         kind: Kind::Order,
-        price: Price::from_number(1)?,
-        contracts: Contracts::from_number(1)?,
+        price: Price::try_from(1)?,
+        contracts: Contracts::try_from(1)?,
     })
 }
 
+/// How a login stands, as the report says it. A function, since neither type is of this crate, whose `From` it could be.
 fn standing_of(row: Row) -> Standing {
     match row.standing {
         gate::Standing::Free => Standing::Free,
@@ -65,8 +65,8 @@ fn played<M: Market, C: Check>(
 ) -> Result<[Standing; 24], Refusal> {
     let gate = Gate::day(market, checks, calls, events)?;
     let mut standings = [Standing::Free; 24];
-    for i in 0..24 {
-        standings[i] = standing_of(gate.row(i as u64 + 1));
+    for (login, standing) in (1..).zip(standings.iter_mut()) {
+        *standing = standing_of(gate.row(login));
     }
     Ok(standings)
 }
@@ -91,15 +91,14 @@ fn played_above(
         next: 0,
         item: slip
     }; slip_slots]?;
-    long_enough(entries.as_slice(), slips.as_slice())?;
     let mut checks = standard_pile();
     let standings = match priority {
         Priority::Time => {
-            let mut market = TimeMarket::new(entries.as_mut_slice(), slips.as_mut_slice());
+            let mut market = TimeMarket::try_new(entries.as_mut_slice(), slips.as_mut_slice())?;
             played(&mut market, &mut checks, calls, events)?
         }
         Priority::Size => {
-            let mut market = SizeMarket::new(entries.as_mut_slice(), slips.as_mut_slice());
+            let mut market = SizeMarket::try_new(entries.as_mut_slice(), slips.as_mut_slice())?;
             played(&mut market, &mut checks, calls, events)?
         }
     };
@@ -146,7 +145,7 @@ fn write_report(
         let logins = Logins { listing, standings };
         writeln!(out, "{logins}")?;
     }
-    for acronym in 1..9u64 {
+    for acronym in 1..=8 {
         if let Some(sums) = ledger.sums(acronym) {
             let firm = FirmLine { acronym, sums };
             writeln!(out, "{firm}")?;
@@ -177,10 +176,7 @@ fn play_script(
         write_report(&standings, &ledger, &mut out)?;
     }
     rt.write_all(out.as_bytes())?;
-    match script.fault {
-        None => Ok(()),
-        Some(fault) => Err(DayFault::Line(fault)),
-    }
+    script.fault.map_or(Ok(()), |fault| Err(DayFault::Line(fault)))
 }
 
 /// Plays the day that stands in the input.

@@ -2,88 +2,30 @@
 
 use lines::LineFault;
 use std::alloc::AllocError;
-use std::{fmt, io};
+use std::io;
 use terms::Refusal;
+use thiserror::Error;
 
 /// A line that is no call, a refusal before the day began, want of memory, or trouble with input or output.
-#[derive(Drop)]
+#[derive(Debug, Drop, Error)]
 pub(crate) enum DayFault {
+    #[error("{0}")]
     Line(LineFault),
-    Refused(Refusal),
-    Memory,
-    Stream(io::Error),
+    #[error("refused {0}")]
+    Refused(#[from] Refusal),
+    #[error("not enough memory")]
+    Memory(#[from(alloc)] AllocError),
+    #[error("{0}")]
+    Stream(#[from] io::Error),
 }
 
-impl From<Refusal> for DayFault {
-    fn from(refusal: Refusal) -> DayFault {
-        DayFault::Refused(refusal)
-    }
-}
-
-impl From<AllocError> for DayFault {
-    fn from(_: AllocError) -> DayFault {
-        DayFault::Memory
-    }
-}
-
-// A text takes all that is written to it unless memory is wanting.
-impl From<fmt::Error> for DayFault {
-    fn from(_: fmt::Error) -> DayFault {
-        DayFault::Memory
-    }
-}
-
-impl From<io::Error> for DayFault {
-    fn from(e: io::Error) -> DayFault {
-        DayFault::Stream(e)
-    }
-}
-
-impl fmt::Display for DayFault {
-    fn fmt<W: fmt::Write>(&self, f: &mut fmt::Formatter<W>) -> fmt::Result {
-        match self {
-            DayFault::Line(fault) => write!(f, "{fault}"),
-            DayFault::Refused(refusal) => write!(
-                f,
-                "refused {} ({})",
-                refusal.number(),
-                refusal.word()
-            ),
-            DayFault::Memory => write!(f, "not enough memory"),
-            DayFault::Stream(e) => write!(f, "{e}"),
-        }
-    }
-}
-
-/// Why the program stops.
-#[derive(Drop)]
+/// Why the program stops. A day's fault stands in its own variant, since an `anyhow::Error` has no room for a long message.
+#[derive(Debug, Drop, Error)]
 pub(crate) enum Stop {
+    #[error("usage: cudrelis price | cudrelis day [time|size] [SLIPS], from standard input")]
     Usage,
-    Desk(anyhow::Error),
-    Day(DayFault),
-}
-
-impl From<anyhow::Error> for Stop {
-    fn from(e: anyhow::Error) -> Stop {
-        Stop::Desk(e)
-    }
-}
-
-impl From<DayFault> for Stop {
-    fn from(fault: DayFault) -> Stop {
-        Stop::Day(fault)
-    }
-}
-
-impl fmt::Display for Stop {
-    fn fmt<W: fmt::Write>(&self, f: &mut fmt::Formatter<W>) -> fmt::Result {
-        match self {
-            Stop::Usage => write!(
-                f,
-                "usage: cudrelis price | cudrelis day [time|size] [SLIPS], from standard input"
-            ),
-            Stop::Desk(e) => write!(f, "{e}"),
-            Stop::Day(fault) => write!(f, "{fault}"),
-        }
-    }
+    #[error(transparent)]
+    Desk(#[from] anyhow::Error),
+    #[error(transparent)]
+    Day(#[from] DayFault),
 }

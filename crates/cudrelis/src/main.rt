@@ -29,8 +29,7 @@ enum Task {
 
 /// The length of a table, as far as it can be one.
 fn slots_in(word: &str) -> Option<usize> {
-    let n = number(word.as_bytes())?;
-    Some(n as usize)
+    number(word.as_bytes()).map(|n| n as usize)
 }
 
 /// The market and the table of a day; both may be left out.
@@ -39,12 +38,8 @@ fn day_task(first: Option<&str>, second: Option<&str>) -> Option<Task> {
         None => (Priority::Time, None),
         Some("time") => (Priority::Time, second),
         Some("size") => (Priority::Size, second),
-        Some(word) => {
-            if second.is_some() {
-                return None;
-            }
-            (Priority::Time, Some(word))
-        }
+        Some(_) if second.is_some() => return None,
+        Some(word) => (Priority::Time, Some(word)),
     };
     let slip_slots = match slots {
         None => SLIP_SLOTS,
@@ -54,14 +49,6 @@ fn day_task(first: Option<&str>, second: Option<&str>) -> Option<Task> {
         priority,
         slip_slots,
     })
-}
-
-/// A word, where there is one.
-fn word_in(word: &Option<String>) -> Option<&str> {
-    match word {
-        Some(word) => Some(word.as_str()),
-        None => None,
-    }
 }
 
 /// What the words after the program's name ask for, if they make sense.
@@ -78,7 +65,7 @@ fn task_in(rt: &HostRuntime) -> anyhow::Result<Option<Task>> {
     }
     match name.as_str() {
         "price" if first.is_none() => Ok(Some(Task::Price)),
-        "day" => Ok(day_task(word_in(&first), word_in(&second))),
+        "day" => Ok(day_task(first.as_deref(), second.as_deref())),
         _ => Ok(None),
     }
 }

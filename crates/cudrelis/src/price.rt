@@ -61,11 +61,11 @@ impl fmt::Display for Printed {
     fn fmt<W: fmt::Write>(&self, f: &mut fmt::Formatter<W>) -> fmt::Result {
         let judgement = match self.0 {
             Ok(judgement) => judgement,
-            Err(refusal) => return write!(f, "refused {} ({})", refusal.number(), refusal.word()),
+            Err(refusal) => return write!(f, "refused {refusal}"),
         };
         match judgement.verdict {
             Ok(()) => write!(f, "pass")?,
-            Err(refusal) => write!(f, "{} ({})", refusal.number(), refusal.word())?,
+            Err(refusal) => write!(f, "{refusal}")?,
         }
         match judgement.basis {
             Basis::Quote => write!(f, ", no reference: quote"),
@@ -87,10 +87,7 @@ struct Complaint {
 }
 
 fn field_name(field: usize) -> &'static str {
-    match FIELDS.get(field) {
-        Some(name) => *name,
-        None => "no field",
-    }
+    FIELDS.get(field).copied().unwrap_or("no field")
 }
 
 impl fmt::Display for Complaint {
@@ -117,12 +114,8 @@ impl fmt::Display for Complaint {
 
 /// Prints the words of a line with single spaces.
 fn echo(rt: &HostRuntime, line: &[u8]) -> anyhow::Result<()> {
-    let mut reader = Reader::new(line);
     let mut out = Vec::new(rt.alloc());
-    for _ in 0..line.len() {
-        let Some(word) = reader.next_word() else {
-            break;
-        };
+    for word in Reader::new(line) {
         out.extend_from_slice(word)?;
         out.push(b' ')?;
     }
@@ -132,13 +125,11 @@ fn echo(rt: &HostRuntime, line: &[u8]) -> anyhow::Result<()> {
 
 /// Answers a question; a line with no word is passed over.
 fn answer_line(rt: &HostRuntime, at: u64, line: &[u8]) -> anyhow::Result<()> {
-    if Reader::new(line).next_word().is_none() {
+    if Reader::new(line).next().is_none() {
         return Ok(());
     }
-    let fields = match numbers::<13>(&mut Reader::new(line)) {
-        Ok(fields) => fields,
-        Err(fault) => return Err(anyhow!(Complaint { line: at, fault }.to_string(rt.alloc())?)),
-    };
+    let fields = numbers::<13>(&mut Reader::new(line))
+        .map_err(|fault| anyhow!(Complaint { line: at, fault }))?;
     echo(rt, line)?;
     println!(rt;
         "-> {}",

@@ -2,11 +2,10 @@
 use Rattle.std.proofs.Common.{◌≡◌, ℕ, zero, suc, ◌+◌, ◌-◌, ◌<◌, ◌≤◌, List, [], ◌∷◌, map, length, get_or, set, replicate, sum_by, sym, refl, ap, ◌∙◌, subst, inl, inr, arith}
 use Rattle.std.proofs.lemmas.List.{length-set, length-map, length-replicate, get_or-set_same}
 use Rattle.std.proofs.lemmas.List.Sums.{sum_by-cons}
-use Rattle.chains.specs.declared.table.Chains.{Chains}
 use Rattle.chains.specs.Slots.{nexts, items}
 use Rattle.chains.specs.Chain.{pick, In, Linked, last0, down}
-use Rattle.chains.specs.Sound.{Layout, Sound}
-use Rattle.chains.specs.Lists.{lists}
+use Rattle.chains.specs.declared.slots.Slot.{Slot}
+use Rattle.chains.specs.Sound.{Layout, Parts, parts_of, Sound, listed}
 use Rattle.chains.proofs.Link.{linked_frame}
 use Rattle.chains.proofs.Pick.{pick_none}
 use Rattle.chains.proofs.Whole.{rebuilt}
@@ -71,14 +70,22 @@ map_none : {X : Type 0} (its : List X) (n : ℕ) → map (pick its) (replicate n
 map_none its zero = refl
 map_none its (suc n) = let e = pick_none its in let r = map_none its n in cc
 
-pub record Fresh {X : Type 0} {N : ℕ} (s : Chains X N) : Type 0 where
-  pub sound : Sound s
-  pub empty : lists s ≡ replicate N []
+pub record Fresh {X : Type 0} (N : ℕ) (s : Parts X) : Type 0 where
+  pub sound : Sound N s
+  pub empty : listed s ≡ replicate N []
 
-pub fresh : {X : Type 0} {N : ℕ} (s : Chains X N) (m : ℕ) → s.heads ≡ replicate N 0 → s.tails ≡ replicate N 0 → Linked (nexts s.table.now) s.free (down m) → m ≡ length s.table.now - 1 → s.room ≡ m → Fresh s
-fresh {X} {N} s m eh et l e er =
-    let nx = nexts s.table.now in
-    let f = fresh_layout nx s.free m N l (e ∙ ap (λ u. u - 1) (sym (length-map s.table.now _))) in
-    let r : Layout nx (s.free ∷ s.heads) s.tails (down m ∷ replicate N []) 0 = rw (eh, et) f in
+map_same : {A B : Type 0} (f : A → B) (n : ℕ) (a : A) → map f (replicate n a) ≡ replicate n (f a)
+map_same f zero a = refl
+map_same f (suc n) a = ap (λ v. f a ∷ v) (map_same f n a)
+
+pub fresh : {X : Type 0} (N : ℕ) (slots : List (Slot X)) (free room m : ℕ) → Linked (nexts slots) free (down m) → m ≡ length slots - 1 → room ≡ m →
+    Fresh N (parts_of slots (replicate N (record { head = 0; tail = 0 })) free room)
+fresh {X} N slots free room m l e er =
+    let s = parts_of slots (replicate N (record { head = 0; tail = 0 })) free room in
+    let nx = nexts slots in
+    let eh : s.heads ≡ replicate N 0 = map_same (λ e. e.head) N _ in
+    let et : s.tails ≡ replicate N 0 = map_same (λ e. e.tail) N _ in
+    let f = fresh_layout nx free m N l (e ∙ ap (λ u. u - 1) (sym (length-map slots _))) in
+    let r : Layout nx (free ∷ s.heads) s.tails (down m ∷ replicate N []) 0 = rw (eh, et) f in
     let b = rebuilt s (down m) (replicate N []) (ap length eh ∙ length-replicate N 0) (ap length et ∙ length-replicate N 0) r (er ∙ sym (length_down m)) in
-    record { sound = b.sound; empty = b.holds ∙ map_none (items s.table.now) N }
+    record { sound = b.sound; empty = b.holds ∙ map_none (items slots) N }

@@ -4,8 +4,9 @@ use mathlib.Core.Logic.{∥∥₁_elim}
 use native.Mathlib.Nat.{ℕ_set}
 use native.Mathlib.Bridge.{le_prop}
 use Rattle.chains.specs.declared.table.Chains.{Chains}
-use Rattle.chains.specs.Chain.{Linked}
-use Rattle.chains.specs.Sound.{Layout, Sound, Kept}
+use Rattle.chains.specs.Chain.{Linked, Chained}
+use Rattle.chains.specs.Sound.{Layout, Parts, Sound}
+use Rattle.chains.specs.Lists.{parts}
 
 linked_prop : (nx : List ℕ) (h : ℕ) (is : List ℕ) → IsProp (Linked nx h is)
 linked_prop nx h [] a b = ℕ_set h 0 a b
@@ -20,13 +21,16 @@ layout_prop nx hs ts iss m a b = λ t. record {
   cover = ℕ_set _ _ a.cover b.cover t;
 }
 
-sound_prop : {X : Type 0} {N : ℕ} (c : Chains X N) → IsProp (Sound c)
-sound_prop c a b = λ t. record {
+sound_prop : {X : Type 0} (N : ℕ) (c : Parts X) → IsProp (Sound N c)
+sound_prop N c a b = λ t. record {
   heads = ℕ_set _ _ a.heads b.heads t;
   tails = ℕ_set _ _ a.tails b.tails t;
   layout = layout_prop _ _ _ _ _ a.layout b.layout t;
   counted = ℕ_set _ _ a.counted b.counted t;
 }
 
-pub sound : {X : Type 0} {N : ℕ} (c : Chains X N) → Kept c → Sound c
-sound c h = ∥∥₁_elim h (sound_prop c) (λ w. w)
+pub sound : {X : Type 0} {N : ℕ} (c : Chains X N) → Sound N (parts c)
+sound c = ∥∥₁_elim c.kept (sound_prop _ (parts c)) (λ w. w)
+
+pub chained_once : (nx : List ℕ) (h : ℕ) → ∥ Chained nx h ∥₁ → Chained nx h
+chained_once nx h l = ∥∥₁_elim l (linked_prop nx h _) (λ w. w)

@@ -9,4 +9,6 @@ mod Changes
 mod Fresh
 mod Search
 mod Clear
+mod Reduce
+mod Seek
 pub mod Totals

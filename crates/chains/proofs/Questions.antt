@@ -1,10 +1,10 @@
 -- The questions and changes of one list: what an item more at its front or in its middle does to them.
-use Rattle.std.proofs.Common.{◌≡◌, ℕ, zero, suc, ◌+◌, ◌-◌, ◌<◌, ◌≤◌, Bool, true, false, cond, List, [], ◌∷◌, ◌++◌, length, get_or, drop, Some, None, fold, sum_by, filter, Option, sym, refl, ap, ◌∙◌, subst, ⊎_elim, arith}
+use Rattle.std.proofs.Common.{◌≡◌, ℕ, zero, suc, ◌+◌, ◌^◌, ◌<◌, Bool, true, false, cond, List, [], ◌∷◌, ◌++◌, get_or, drop, Some, None, fold, sum_by, filter, Option, sym, refl, ap, ◌∙◌, subst, ⊎_elim, arith}
 use Rattle.std.specs.Cmp.{IsStrictWeakOrder}
-use Rattle.std.specs.List.{best_of}
+use Rattle.std.specs.List.{best_of, slice_get, reduce}
 use Rattle.std.proofs.lemmas.List.MinMax.{IsFirstBest-from_best_of}
 use Rattle.std.proofs.lemmas.List.{get_or_default}
-use Rattle.std.proofs.lemmas.List.Sums.{sum_by-cons, length-filter, count_by-le-length}
+use Rattle.std.proofs.lemmas.List.Sums.{sum_by-cons}
 use Rattle.std.proofs.lemmas.Bool.{cond-true, cond-false, cases_Bool}
 use Rattle.chains.specs.Asks.{NoneOf, oldest, first_becomes, Became, preferred, best, Leads, saturated}
 
@@ -46,38 +46,33 @@ became p zs xs after r ea er = rw (ea, er) (as_defined xs)
         (λ (e : p y ≡ false). rw (kept_no p y ys e, cond-false (p y) (zs ++ ys) (y ∷ first_becomes p zs ys) e) (became_later p zs y ys _ _ e (as_defined ys)))
         (cases_Bool (p y))
 
--- ---- the test that every item meets
-
-pub kept_any : {X : Type 0} (xs : List X) → filter (λ _. true) xs ≡ xs
-kept_any [] = refl
-kept_any (x ∷ xs) = ap (λ v. x ∷ v) (kept_any xs)
-
 -- ---- sums: n is the sum so far
-
-pub sum_ones : {X : Type 0} (xs : List X) → sum_by (λ _. 1) xs ≡ length xs
-sum_ones [] = refl
-sum_ones (x ∷ xs) = sum_by-cons (λ _. 1) x xs ∙ omega (arith, sum_ones xs)
-
-pub kept_short : {X : Type 0} (p : X → Bool) (xs : List X) → length (filter p xs) ≤ length xs
-kept_short p xs = omega (arith, length-filter p xs, count_by-le-length p xs)
 
 pub sum_yes : {X : Type 0} (w : X → ℕ) (p : X → Bool) (n n' : ℕ) (x : X) (ys : List X) → p x ≡ true → n' ≡ saturated (n + w x) → saturated (n' + sum_by w (filter p ys)) ≡ saturated (n + sum_by w (filter p (x ∷ ys)))
 sum_yes w p n n' x ys e en = omega (arith, en, ap (sum_by w) (kept_yes p x ys e), sum_by-cons w x (filter p ys))
 
+sum_folded : {X : Type 0} (w : X → ℕ) (n : ℕ) (xs : List X) → n < 2 ^ 64 → fold (λ a x. saturated (a + w x)) n xs ≡ saturated (n + sum_by w xs)
+sum_folded w n [] lt = omega arith
+sum_folded w n (x ∷ xs) lt = sum_folded w (saturated (n + w x)) xs (omega arith) ∙ omega (arith, sum_by-cons w x xs)
+
+pub sum_all : {X : Type 0} (w : X → ℕ) (xs : List X) → fold (λ a x. saturated (a + w x)) 0 xs ≡ saturated (sum_by w xs)
+sum_all w xs = sum_folded w 0 xs (omega arith) ∙ ap saturated (omega arith)
+
 pub sum_no : {X : Type 0} (w : X → ℕ) (p : X → Bool) (n : ℕ) (x : X) (ys : List X) → p x ≡ false → saturated (n + sum_by w (filter p ys)) ≡ saturated (n + sum_by w (filter p (x ∷ ys)))
 sum_no w p n x ys e = ap (λ v. saturated (n + sum_by w v)) (sym (kept_no p x ys e))
 
--- ---- the best: o is the best so far
+-- ---- the best: of two, the later only if it is better
 
-pub best_yes : {X : Type 0} (b : X → X → Bool) (p : X → Bool) (o o' : Option X) (x : X) (ys : List X) → p x ≡ true → o' ≡ preferred b o x → fold (preferred b) o' (filter p ys) ≡ fold (preferred b) o (filter p (x ∷ ys))
-best_yes b p o o' x ys e eo = ap (λ v. fold (preferred b) v (filter p ys)) eo ∙ ap (fold (preferred b) o) (sym (kept_yes p x ys e))
-
-pub best_no : {X : Type 0} (b : X → X → Bool) (p : X → Bool) (o : Option X) (x : X) (ys : List X) → p x ≡ false → fold (preferred b) o (filter p ys) ≡ fold (preferred b) o (filter p (x ∷ ys))
-best_no b p o x ys e = ap (fold (preferred b) o) (sym (kept_no p x ys e))
+abbrev pub better : {X : Type 0} → (X → X → Bool) → X → X → X
+better b y x = cond (b x y) x y
 
 folded_best : {X : Type 0} (b : X → X → Bool) (x : X) (xs : List X) → fold (preferred b) (Some x) xs ≡ Some (best_of b x xs)
 folded_best b x [] = refl
 folded_best b x (y ∷ xs) = folded_best b (cond (b y x) y x) xs
+
+pub reduced_best : {X : Type 0} (b : X → X → Bool) (xs : List X) → reduce (better b) xs ≡ best b xs
+reduced_best b [] = refl
+reduced_best b (x ∷ xs) = sym (folded_best b x xs)
 
 pub best_leads : {X : Type 0} (b : X → X → Bool) → IsStrictWeakOrder b → (xs : List X) (r : Option X) → r ≡ best b xs → Leads b xs r
 best_leads {X} b o [] r e = let P : Option X → Type 0 = Leads b [] in subst P (sym e) refl
@@ -89,10 +84,8 @@ best_leads {X} b o (x ∷ xs) r e =
 
 -- ---- the item after n others
 
-pub drop_less : {X : Type 0} (n : ℕ) (x : X) (xs : List X) → 0 < n → drop n (x ∷ xs) ≡ drop (n - 1) xs
-drop_less zero x xs h = absurd (omega arith)
-drop_less (suc n) x xs h = ap (λ m. drop m xs) (omega arith)
-
-pub drop_none : {X : Type 0} (n : ℕ) → ◌≡◌ {A = List X} (drop n []) []
-drop_none zero = refl
-drop_none (suc n) = refl
+pub oldest_drop : {X : Type 0} (n : ℕ) (xs : List X) → oldest (drop n xs) ≡ slice_get xs n
+oldest_drop zero [] = refl
+oldest_drop zero (x ∷ xs) = refl
+oldest_drop (suc n) [] = refl
+oldest_drop (suc n) (x ∷ xs) = oldest_drop n xs

@@ -61,12 +61,10 @@ pub record Passed {X : Type 0} (nx : List ℕ) (its : List X) (h prev here : ℕ
   pub holds : pick its done ≡ xs
   pub ahead : Chained nx here
 
--- a walk from h has come to the place here, and no item that it passed meets the test p
+-- a walk from h has come to the place here, whose item is the first that meets the test p
 pub record Sought {X : Type 0} (p : X → Bool) (nx : List ℕ) (its : List X) (h prev here : ℕ) : Type 0 where
   pub passed : List X
   pub walked : Passed nx its h prev here passed
   pub missed : NoneOf p passed
-
--- the item at a place meets the test p; nothing is said of place 0
-abbrev pub Met : {X : Type 0} → (X → Bool) → List X → ℕ → Type 0
-Met {X} p its here = 0 < here → (x : X) → at its here ≡ x ∷ [] → p x ≡ true
+  pub some : 0 < here
+  pub met : (x : X) → at its here ≡ x ∷ [] → p x ≡ true

@@ -4,3 +4,4 @@ pub mod Chain
 pub mod Sound
 pub mod Lists
 pub mod Steps
+pub mod Walks

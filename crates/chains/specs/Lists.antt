@@ -1,14 +1,15 @@
 -- What the chains hold: the list of each, oldest first, how many items together, and for how many there are places.
-use Rattle.std.specs.Prelude.{◌≡◌, ℕ, ◌-◌, Bool, true, List, [], ◌∷◌, ◌++◌, map, length, sum_by, slice_index_or, slice_set}
+use Rattle.std.specs.Prelude.{◌≡◌, ℕ, ◌-◌, Bool, true, List, [], ◌∷◌, ◌++◌, length, sum_by, slice_index_or, slice_set}
 use Rattle.chains.specs.declared.table.Chains.{Chains}
-use Rattle.chains.specs.Slots.{nexts, items}
-use Rattle.chains.specs.Chain.{pick}
-use Rattle.chains.specs.Sound.{walks}
+use Rattle.chains.specs.Sound.{Parts, parts_of, listed}
 use Rattle.chains.specs.Asks.{NoneOf}
+
+abbrev pub parts : {X : Type 0} {N : ℕ} → Chains X N → Parts X
+parts c = parts_of c.table.now c.ends c.free c.room
 
 -- the items of each chain, oldest first
 unfoldable pub lists : {X : Type 0} {N : ℕ} → Chains X N → List (List X)
-lists c = map (pick (items c.table.now)) (walks (nexts c.table.now) c.heads)
+lists c = listed (parts c)
 
 -- how many items the chains can hold together: one for each place but place 0
 unfoldable pub places : {X : Type 0} {N : ℕ} → Chains X N → ℕ

@@ -1,4 +1,5 @@
 //! What is asked of the items of a chain: tests, numbers and orders, each with its meaning as a function.
+//! They are traits and no closures: contracts filter, sum and rank lists by these functions, and a closure's `post` is only a relation.
 
 ghost use Rattle.std.specs.Prelude.{◌≡◌, ℕ, Bool, true};
 
@@ -35,17 +36,5 @@ impl<T> Test<T> for Any {
 
     fn meets(&self, _item: &T) -> bool {
         true
-    }
-}
-
-/// The number 1 of each item, whose sum is a count.
-#[derive(Drop)]
-pub(crate) struct One;
-
-impl<T> Weight<T> for One {
-    ghost weight = { λ _ _. 1 };
-
-    fn weight(&self, _item: &T) -> u32 {
-        1
     }
 }

@@ -7,10 +7,12 @@
 #![tactic(auto)]
 
 mod asks;
+mod error;
 mod slots;
 mod table;
 mod walks;
 
 pub use asks::{Any, Order, Test, Weight};
+pub use error::Full;
 pub use slots::Slot;
 pub use table::Chains;

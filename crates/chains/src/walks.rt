@@ -1,107 +1,77 @@
-//! Walks of one chain that read it and change nothing.
+//! Walks along one chain, which read it and change nothing.
 
-ghost use Rattle.std.specs.Prelude.{◌≡◌, drop, sum_by, filter};
+ghost use Rattle.std.specs.Prelude.{◌≡◌, IfSome, IfNone};
 ghost use Rattle.chains.specs.Slots.{nexts, items};
-ghost use Rattle.chains.specs.Chain.{Chained, items_from, Sought, Met};
-ghost use Rattle.chains.specs.Asks.{oldest, saturated, preferred, best as best_of};
+ghost use Rattle.chains.specs.Chain.{Chained, Sought};
+ghost use Rattle.chains.specs.Asks.{NoneOf};
 
-use crate::asks::{Order, Test, Weight};
-use crate::slots::{Slot, peek};
+use crate::asks::Test;
+use crate::slots::Slot;
 
-/// The first place from `head` on whose item meets the test, and the place before it; 0 where there is none.
-pub(crate) fn seek<T: Copy, P: Test<T>>(table: &[Slot<T>], head: usize, test: &P) -> (usize, usize)
-    requires { Chained (nexts table.now) head }
-    ensures sought { Sought (P.Test.meets test.now) (nexts table.now) (items table.now) head result.0 result.1 }
-    ensures met { Met (P.Test.meets test.now) (items table.now) result.1 }
-{
-    let mut prev = 0;
-    let mut here = head;
-    while here != 0 {
-        let slot = peek(table, here);
-        if test.meets(&slot.item) {
-            break;
-        }
-        prev = here;
-        here = slot.next;
-    }
-    (prev, here)
+/// The place of an item, and the place before it, which is 0 for the first of a chain.
+#[derive(Clone, Copy)]
+pub(crate) struct Spot {
+    pub(crate) prev: usize,
+    pub(crate) here: usize,
 }
 
-/// The sum of a number of each item from `head` on that meets the test.
-pub(crate) fn sum_from<T: Copy, P: Test<T>, W: Weight<T>>(
-    table: &[Slot<T>],
-    head: usize,
-    test: &P,
-    weight: &W,
-) -> u64
-    requires { Chained (nexts table.now) head }
-    ensures { result ≡ saturated (sum_by (W.Weight.weight weight.now) (filter (P.Test.meets test.now) (items_from (nexts table.now) (items table.now) head))) }
-{
-    let mut sum: u64 = 0;
-    let mut here = head;
-    while here != 0 {
-        let slot = peek(table, here);
-        if test.meets(&slot.item) {
-            sum = sum.saturating_add(u64::from(weight.weight(&slot.item)));
-        }
-        here = slot.next;
-    }
-    sum
+/// A walk along a chain. It yields the items from the place `next` on, and `spot` is where the last that it yielded lies.
+#[derive(Drop)]
+pub(crate) struct Walk<'a, T> {
+    table: &'a [Slot<T>],
+    spot: Spot,
+    next: usize,
+    ghost chained: { ∥ Chained (nexts table.now) next ∥₁ },
 }
 
-/// The item after `n` others from `head` on that meet the test.
-pub(crate) fn nth_from<T: Copy, P: Test<T>>(
-    table: &[Slot<T>],
-    head: usize,
-    test: &P,
-    n: usize,
-) -> Option<T>
-    requires { Chained (nexts table.now) head }
-    ensures { result ≡ oldest (drop n (filter (P.Test.meets test.now) (items_from (nexts table.now) (items table.now) head))) }
-{
-    let mut left = n;
-    let mut here = head;
-    while here != 0 {
-        let slot = peek(table, here);
-        if test.meets(&slot.item) {
-            if left == 0 {
-                return Some(slot.item);
-            }
-            left -= 1;
+impl<'a, T> Iterator for Walk<'a, T> {
+    type Item = &'a T;
+
+    ghost use Rattle.std.specs.Iterator.{item_count};
+    ghost use Rattle.chains.specs.Walks.{left, Strides};
+
+    ghost next_gives = { Strides };
+
+    ghost remaining = { item_count left };
+
+    fn next(&mut self) -> Option<&'a T> {
+        let here = self.next;
+        if here == 0 {
+            return None;
         }
-        here = slot.next;
+        let slot = &self.table[here];
+        self.spot = Spot {
+            prev: self.spot.here,
+            here,
+        };
+        self.next = slot.next;
+        Some(&slot.item)
     }
-    None
 }
 
-/// The best item from `head` on of those that meet the test.
-pub(crate) fn best_from<T: Copy, P: Test<T>, O: Order<T>>(
-    table: &[Slot<T>],
-    head: usize,
-    test: &P,
-    order: &O,
-) -> Option<T>
-    requires { Chained (nexts table.now) head }
-    ensures { result ≡ best_of (O.Order.better order.now) (filter (P.Test.meets test.now) (items_from (nexts table.now) (items table.now) head)) }
-{
-    let mut best = None;
-    let mut here = head;
-    while here != 0 {
-        let slot = peek(table, here);
-        if test.meets(&slot.item) {
-            best = better_of(best, slot.item, order);
-        }
-        here = slot.next;
-    }
-    best
-}
+impl<'a, T> Walk<'a, T> {
+    ghost use Rattle.chains.specs.Walks.{left, Starts};
 
-/// Of the best so far and the next item, the next one only if it is better.
-fn better_of<T: Copy, O: Order<T>>(best: Option<T>, next: T, order: &O) -> Option<T>
-    ensures { result ≡ preferred (O.Order.better order.now) best next }
-{
-    match best {
-        Some(old) => Some(if order.better(&next, &old) { next } else { old }),
-        None => Some(next),
+    /// The walk from place `head` on.
+    pub(crate) fn new(table: &'a [Slot<T>], head: usize) -> Walk<'a, T>
+        requires { Chained (nexts table.now) head }
+        ensures { Starts result table.now head }
+    {
+        Walk {
+            table,
+            spot: Spot { prev: 0, here: 0 },
+            next: head,
+        }
+    }
+
+    /// Where the first item that meets the test lies.
+    pub(crate) fn seek<P: Test<T>>(self, test: &P) -> Option<Spot>
+        requires { self.spot.here ≡ 0 }
+        ensures none { IfNone result (NoneOf (P.Test.meets test.now) (left self.entry)) }
+        ensures found { IfSome result (λ s. Sought (P.Test.meets test.now) (nexts self.entry.table.now) (items self.entry.table.now) self.entry.next s.prev s.here) }
+    {
+        let mut walk = self;
+        walk.find(|item| test.meets(*item))?;
+        Some(walk.spot)
     }
 }

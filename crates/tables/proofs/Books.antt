@@ -7,7 +7,7 @@ use Rattle.terms.specs.declared.entries.Entry.{Entry}
 use Rattle.market.specs.Book as book
 use Rattle.market.specs.Book.{total, totals, count, counts, without, is_for, in_reach}
 use Rattle.market.specs.Seen.{seen}
-use Rattle.tables.specs.Held.{Few}
+use Rattle.tables.specs.Kept.{Few}
 
 -- ---- an entry more
 

@@ -5,13 +5,13 @@ use Rattle.std.specs.Cmp.{IsStrictWeakOrder}
 use Rattle.std.specs.List.{best_of}
 use Rattle.std.proofs.lemmas.List.MinMax.{IsStrictWeakOrder-by_number, IsStrictWeakOrder-flip, IsFirstBest-from_best_of}
 use Rattle.std.proofs.lemmas.List.{get_or_default}
-use Rattle.std.proofs.lemmas.Bool.{cases_Bool, cond-true, cond-false, and_parts, and_from, or_left, or_right, or_from, eqb-true, eq-eqb, ltb-false, leb-true}
+use Rattle.std.proofs.lemmas.Bool.{cases_Bool, cond-true, cond-false, cond_both, and_parts, and_from, or_left, or_right, or_from, eqb-true, eq-eqb, ltb-false, leb-true}
 use Rattle.chains.specs.Asks.{oldest, preferred, best, Leads}
 use Rattle.terms.specs.Tables.{any_of}
-use Rattle.market.specs.Book.{Entry, is_for, count, counts, total}
+use Rattle.market.specs.Book.{Entry, Book, is_for, count, counts, total}
 use Rattle.market.specs.Market.{cross}
-use Rattle.tables.specs.Cross.{on_side, at_price, dearer, cheaper, best_buy, best_sell, Pair, paired, pair_in, Crossing, or_else, crossing_from, names, same, Stands, Meet}
-use Rattle.tables.specs.Held.{Apart}
+use Rattle.tables.specs.Cross.{on_side, at_price, dearer, cheaper, best_buy, best_sell, Pair, paired, pair_in, Crossing, or_else, crossing_from, lowest, before, older, names, same, Stands, Meet}
+use Rattle.tables.specs.Kept.{Apart}
 use Rattle.tables.proofs.Books.{counts_narrower}
 use Rattle.tables.proofs.Pairs.{is_for_self, any_at, stands_any}
 
@@ -195,6 +195,26 @@ nothing_crosses k [] e = refl
 nothing_crosses k (es ∷ ess) e =
     let n = not_found k es ess (pair_in es) refl e in
     or_from _ _ (no_pair es n.0) (nothing_crosses (suc k) ess n.1)
+
+-- what is known of the crossing that was found
+pub record At (b : Book) (k : ℕ) (p : Pair) : Type 0 where
+  pub below : k < length b.resting
+  pub paired : Paired (get_or b.resting k []) p
+  pub lower : (j : ℕ) → j < k → pair_in (get_or b.resting j []) ≡ None
+
+pub found_at : (b : Book) (k : ℕ) (p : Pair) → Some (record { series = k; pair = p }) ≡ lowest b.resting → At b k p
+found_at b k p e =
+    let w = lowest_is 0 b.resting (record { series = k; pair = p }) (sym e) in
+    let s : w.place ≡ k = omega (arith, w.is) in
+    let P : ℕ → Type 0 = λ v. v < length b.resting in
+    let Q : ℕ → Type 0 = λ v. pair_in (get_or b.resting v []) ≡ Some p in
+    let R : ℕ → Type 0 = λ v. (j : ℕ) → j < v → pair_in (get_or b.resting j []) ≡ None in
+    record { below = subst P s w.below; paired = pair_parts (get_or b.resting k []) p (subst Q s w.pair); lower = subst R s w.lower }
+
+-- the older's price is within both limits
+pub older_fair : (es : List Entry) (p : Pair) → p.sell.price ≤ p.buy.price → (p.sell.price ≤ (older es p).price) × ((older es p).price ≤ p.buy.price)
+older_fair es p h =
+    cond_both (before p.buy p.sell es) p.buy p.sell (λ v. (p.sell.price ≤ v.price) × (v.price ≤ p.buy.price)) (λ _. (h, omega arith)) (λ _. (omega arith, h))
 
 -- ---- the pair stands in its series
 

@@ -6,6 +6,7 @@ pub mod Rest
 pub mod Less
 pub mod Slips
 pub mod Meeting
+pub mod Searching
 pub mod Trades
 pub mod Pairs
 pub mod Crossings

@@ -1,7 +1,8 @@
 -- Tests, counts and sums over lists of lists, and lists seen through a function.
 use Rattle.std.proofs.Common.{◌≡◌, ℕ, zero, suc, ◌+◌, ◌<◌, ◌≤◌, Bool, true, false, cond, not, ◌||◌, ltb, List, [], ◌∷◌, map, length, get_or, take, sum_by, filter, sym, refl, ap, ◌∙◌, add-one, arith, ltb-false, ltb-true, lt-ltb}
 use Rattle.std.proofs.lemmas.List.{length-map}
-use Rattle.std.proofs.lemmas.List.Sums.{sum_by-cons, length-filter, count_by-le-length, sum_by_more, sum_by-take-le}
+use Rattle.std.proofs.lemmas.List.Sums.{sum_by-cons, length-filter, count_by-le-length, sum_by_more}
+use Rattle.std.specs.List.{range_with_len}
 use Rattle.chains.specs.Asks.{without_all, saturated}
 use Rattle.chains.specs.Lists.{changed}
 use Rattle.terms.specs.Tables.{any_of}
@@ -102,11 +103,19 @@ tally_le p [] = omega arith
 tally_le {X} p (xs ∷ ls) =
     omega (arith, tally_le p ls, kept_short p xs, sum_by-cons (λ (ys : List X). length (filter p ys)) xs ls, sum_by-cons (λ (ys : List X). length ys) xs ls)
 
-pub tally_more : {X : Type 0} (p : X → Bool) (ls : List (List X)) (k : ℕ) → k < length ls → tally p (take (k + 1) ls) ≡ tally p (take k ls) + length (filter p (get_or ls k []))
-tally_more {X} p ls k h = sum_by_more (λ (xs : List X). length (filter p xs)) ls k [] h
+-- ---- a sum by place
 
-pub tally_front : {X : Type 0} (p : X → Bool) (ls : List (List X)) (k : ℕ) → tally p (take k ls) ≤ sum_by length ls
-tally_front {X} p ls k = omega (arith, sum_by-take-le (λ (xs : List X). length (filter p xs)) ls k, tally_le p ls)
+placed : {X : Type 0} (h : ℕ → ℕ) (w : List X → ℕ) (a : ℕ) (ls : List (List X)) → ((k : ℕ) → k < length ls → h (a + k) ≡ w (get_or ls k [])) → sum_by h (range_with_len a (length ls)) ≡ sum_by w ls
+placed h w a [] e = refl
+placed h w a (xs ∷ ls) e =
+    let next : (k : ℕ) → k < length ls → h (a + 1 + k) ≡ w (get_or ls k []) = λ k lt. let q : a + 1 + k ≡ a + suc k = omega arith in ap h q ∙ e (suc k) (omega arith) in
+    let here : h a ≡ w xs = let q : a ≡ a + 0 = omega arith in ap h q ∙ e 0 (omega arith) in
+    omega (arith, here, placed h w (a + 1) ls next, sum_by-cons h a (range_with_len (a + 1) (length ls)), sum_by-cons w xs ls)
+
+pub by_place : {X : Type 0} (w : List X → ℕ) (n : ℕ) (ls : List (List X)) → length ls ≡ n → sum_by (λ k. w (get_or ls k [])) (range_with_len 0 n) ≡ sum_by w ls
+by_place w n ls e =
+    let z : (k : ℕ) → 0 + k ≡ k = λ k. omega arith in
+    ap (λ m. sum_by (λ k. w (get_or ls k [])) (range_with_len 0 m)) (sym e) ∙ placed (λ k. w (get_or ls k [])) w 0 ls (λ k lt. ap (λ v. w (get_or ls v [])) (z k))
 
 -- ---- each list changed in turn
 

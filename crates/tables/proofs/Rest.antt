@@ -3,16 +3,17 @@ use Rattle.std.proofs.Common.{◌≡◌, ℕ, ◌+◌, ◌<◌, ◌≤◌, Bool,
 use borrow.Author.Tests.{lt-leb}
 use Rattle.std.proofs.lemmas.List.{length-map, map-set, map_push, get_or-map}
 use Rattle.std.proofs.lemmas.Bool.{cases_eq, cases_Bool, cond-true, cond-false, and_parts, eqb-true, ne_eqb}
-use Rattle.chains.specs.Sound.{Kept}
+use Rattle.chains.specs.declared.table.Chains.{Chains}
 use Rattle.chains.specs.Lists.{lists, places, changed, appended}
 use Rattle.terms.specs.declared.refusal.Refusal.TheVariants.{InUse, Allotment}
 use Rattle.terms.specs.declared.entries.Entry.{Entry}
+use Rattle.terms.specs.declared.entries.Slip.{Slip}
 use Rattle.market.specs.Book as book
 use Rattle.market.specs.Book.{Book, is_for, counts, any_in}
 use Rattle.market.specs.Market.{Rested, rest_refusal, rested}
-use Rattle.market.specs.Seen.{seen, seen_slip}
-use Rattle.tables.specs.declared.held.Tables.{Tables}
-use Rattle.tables.specs.Held.{book_of, resting_of, Few, Apart, Good}
+use Rattle.market.specs.Seen.{seen}
+use Rattle.tables.specs.Kept.{seen_entries, Few, Apart}
+use Rattle.tables.specs.Held.{book_in}
 use Rattle.tables.proofs.Listed.{any_counts}
 use Rattle.tables.proofs.Places.{at_place, put_place}
 use Rattle.tables.proofs.Books.{counts_append, room_left}
@@ -60,28 +61,28 @@ apart_more ess k e h apart z l n =
     omega (arith, more, i, j, z, cond-true {A = ℕ} (is_for l n e) 1 0 y))
     (λ y. omega (arith, more, apart l n, cond-false {A = ℕ} (is_for l n e) 1 0 y)) (cases_Bool (is_for l n e))
 
-pub record More (t t' : Tables) (s : ℕ) (x : Entry) : Type 0 where
-  pub good : Good t'
-  pub does : Rested (book_of t) s (seen x) (Ok tt) (book_of t')
+pub record More (es es' : Chains Entry 16) (ss : Chains Slip 24) (s : ℕ) (x : Entry) : Type 0 where
+  pub few : Few (seen_entries es')
+  pub apart : Apart (seen_entries es')
+  pub does : Rested (book_in es ss) s (seen x) (Ok tt) (book_in es' ss)
 
-pub one_more : (t t' : Tables) (k s : ℕ) (x : Entry) (r : Bool) → Good t → k + 1 ≡ s → k < length (lists t.entries) →
-    counts (is_for (seen x).login (seen x).number) (resting_of t) ≡ 0 → counts (λ e. eqb e.login (seen x).login) (resting_of t) < 16 →
-    Kept t'.entries → r ≡ ltb (sum_by length (lists t.entries)) (places t.entries) → lists t'.entries ≡ cond r (appended (lists t.entries) k x) (lists t.entries) →
-    places t'.entries ≡ places t.entries → t'.slips ≡ t.slips → More t t' s x
-one_more t t' k s x r g es kl z lt kept er el ep e' =
-    let room = room_left 24 (λ e. e.login.high) (lists t.entries) x.login.value g.2 x.login.low x.login.high lt in
-    let yes : r ≡ true = er ∙ lt-ltb _ _ (omega (arith, room, g.4)) in
-    let ess = resting_of t in
-    let kl2 : k < length ess = omega (arith, length-map (lists t.entries) (map seen)) in
-    let now : resting_of t' ≡ appended ess k (seen x) = ap (map (map seen)) (el ∙ cond-true r _ _ yes) ∙ appended_seen seen (lists t.entries) k x kl in
+pub one_more : (es es' : Chains Entry 16) (ss : Chains Slip 24) (k s : ℕ) (x : Entry) (r : Bool) → Few (seen_entries es) → Apart (seen_entries es) → 384 ≤ places es → k + 1 ≡ s → k < length (lists es) →
+    counts (is_for (seen x).login (seen x).number) (seen_entries es) ≡ 0 → counts (λ e. eqb e.login (seen x).login) (seen_entries es) < 16 →
+    r ≡ ltb (sum_by length (lists es)) (places es) → lists es' ≡ cond r (appended (lists es) k x) (lists es) → More es es' ss s x
+one_more es es' ss k s x r few apart room e kl z lt er el =
+    let left = room_left 24 (λ e. e.login.high) (lists es) x.login.value few x.login.low x.login.high lt in
+    let yes : r ≡ true = er ∙ lt-ltb _ _ (omega (arith, left, room)) in
+    let ess = seen_entries es in
+    let kl2 : k < length ess = omega (arith, length-map (lists es) (map seen)) in
+    let now : seen_entries es' ≡ appended ess k (seen x) = ap (map (map seen)) (el ∙ cond-true r _ _ yes) ∙ appended_seen seen (lists es) k x kl in
     let P : List (List book.Entry) → Type 0 = Few in
     let Q : List (List book.Entry) → Type 0 = Apart in
-    let named : (rested (book_of t) s (seen x)).resting ≡ appended ess k (seen x) = put_place ess k s _ es ∙ ap (λ v. set ess k (v ++ seen x ∷ [])) (at_place [] ess k s es) in
-    let slips = ap (λ v. map (map seen_slip) (lists v)) e' in
-    let kept_slips : Kept t'.slips = subst (λ v. Kept v) (sym e') g.1 in
+    let b = book_in es ss in
+    let named : (rested b s (seen x)).resting ≡ appended ess k (seen x) = put_place ess k s _ e ∙ ap (λ v. set ess k (v ++ seen x ∷ [])) (at_place [] ess k s e) in
     record {
-      good = (kept, kept_slips, subst P (sym now) (few_more ess k (seen x) kl2 g.2 lt), subst Q (sym now) (apart_more ess k (seen x) kl2 g.3 z), omega (arith, ep, g.4));
-      does = accepted (rest_refusal (book_of t) (seen x)) tt (book_of t) (rested (book_of t) s (seen x)) tt (book_of t')
-          (past_in_use (book_of t) (seen x) z ∙ cond-false (leb 16 (counts (λ o. eqb o.login (seen x).login) ess)) _ _ (lt-leb _ _ lt))
-          refl (same_book (book_of t') (rested (book_of t) s (seen x)) (now ∙ sym named) slips (ap places e'));
+      few = subst P (sym now) (few_more ess k (seen x) kl2 few lt);
+      apart = subst Q (sym now) (apart_more ess k (seen x) kl2 apart z);
+      does = accepted (rest_refusal b (seen x)) tt b (rested b s (seen x)) tt (book_in es' ss)
+          (past_in_use b (seen x) z ∙ cond-false (leb 16 (counts (λ o. eqb o.login (seen x).login) ess)) _ _ (lt-leb _ _ lt))
+          refl (same_book (book_in es' ss) (rested b s (seen x)) (now ∙ sym named) refl refl);
     }

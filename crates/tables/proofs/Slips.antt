@@ -3,15 +3,17 @@ use Rattle.std.proofs.Common.{◌≡◌, ℕ, zero, suc, ◌+◌, ◌<◌, Bool,
 use Rattle.std.proofs.lemmas.Bool.{cases_eq, eq-eqb, ne_eqb}
 use Rattle.std.proofs.lemmas.List.{length-map, get_or-map}
 use Rattle.std.proofs.lemmas.List.Sums.{sum_by-cons}
-use Rattle.chains.specs.Sound.{Kept}
+use Rattle.chains.specs.declared.table.Chains.{Chains}
 use Rattle.chains.specs.Asks as asks
 use Rattle.chains.specs.Lists.{lists, places, changed}
+use Rattle.terms.specs.declared.entries.Entry.{Entry}
 use Rattle.terms.specs.declared.entries.Slip.{Slip}
 use Rattle.market.specs.Book.{empty, waiting_of}
 use Rattle.market.specs.Market.{oldest, younger, Shown, Dropped, dropped, Bare}
 use Rattle.market.specs.Seen.{seen, seen_slip, seen_oldest}
-use Rattle.tables.specs.declared.held.Tables.{Tables}
-use Rattle.tables.specs.Held.{book_of, resting_of, slips_of, Good}
+use Rattle.tables.specs.declared.state.Tables.{Tables}
+use Rattle.tables.specs.Kept.{seen_slips}
+use Rattle.tables.specs.Held.{book_in, book_of, resting_of, slips_of}
 use Rattle.tables.proofs.Places.{at_place, put_place}
 use Rattle.tables.proofs.Doing.{same_book}
 use Rattle.tables.proofs.Rest.{changed_seen}
@@ -26,25 +28,19 @@ drop_seen : (xs : List Slip) → map seen_slip (drop 1 xs) ≡ younger (map seen
 drop_seen [] = refl
 drop_seen (x ∷ xs) = refl
 
-waiting_at : (t : Tables) (k login : ℕ) → k + 1 ≡ login → k < length (lists t.slips) → waiting_of (book_of t) login ≡ map seen_slip (get_or (lists t.slips) k [])
-waiting_at t k login e h = at_place [] (slips_of t) k login e ∙ get_or-map (map seen_slip) (lists t.slips) k [] [] h
+waiting_at : (es : Chains Entry 16) (ss : Chains Slip 24) (k login : ℕ) → k + 1 ≡ login → k < length (lists ss) → waiting_of (book_in es ss) login ≡ map seen_slip (get_or (lists ss) k [])
+waiting_at es ss k login e h = at_place [] (seen_slips ss) k login e ∙ get_or-map (map seen_slip) (lists ss) k [] [] h
 
-pub shown : (t : Tables) (k login : ℕ) (r : Option Slip) → k + 1 ≡ login → k < length (lists t.slips) → r ≡ asks.oldest (get_or (lists t.slips) k []) → Shown (book_of t) login (seen_oldest r)
-shown t k login r e h er = ap seen_oldest er ∙ oldest_seen (get_or (lists t.slips) k []) ∙ ap oldest (sym (waiting_at t k login e h))
+pub shown : (es : Chains Entry 16) (ss : Chains Slip 24) (k login : ℕ) (r : Option Slip) → k + 1 ≡ login → k < length (lists ss) → r ≡ asks.oldest (get_or (lists ss) k []) → Shown (book_in es ss) login (seen_oldest r)
+shown es ss k login r e h er = ap seen_oldest er ∙ oldest_seen (get_or (lists ss) k []) ∙ ap oldest (sym (waiting_at es ss k login e h))
 
-pub record Gone (t t' : Tables) (login : ℕ) (r : Option Slip) : Type 0 where
-  pub good : Good t'
-  pub does : Dropped (book_of t) login (seen_oldest r) (book_of t')
-
-pub one_gone : (t t' : Tables) (k login : ℕ) (r : Option Slip) → Good t → k + 1 ≡ login → k < length (lists t.slips) → r ≡ asks.oldest (get_or (lists t.slips) k []) →
-    Kept t'.slips → lists t'.slips ≡ changed (drop 1) (lists t.slips) k → places t'.slips ≡ places t.slips → t'.entries ≡ t.entries → Gone t t' login r
-one_gone t t' k login r g e h er kept el ep ee =
-    let ess = slips_of t in
-    let now : slips_of t' ≡ changed younger ess k = ap (map (map seen_slip)) el ∙ changed_seen seen_slip (drop 1) younger (lists t.slips) k h (drop_seen (get_or (lists t.slips) k [])) in
-    let named : (dropped (book_of t) login).slips ≡ changed younger ess k = put_place ess k login _ e ∙ ap (λ v. set ess k (younger v)) (at_place [] ess k login e) in
-    let rest = ap (λ v. map (map seen) (lists v)) ee in
-    let G : Good t' = subst (λ v. Good (record { entries = v; slips = t'.slips })) (sym ee) (g.0, kept, g.2, g.3, g.4) in
-    record { good = G; does = (shown t k login r e h er, same_book (book_of t') (dropped (book_of t) login) rest (now ∙ sym named) ep) }
+pub one_gone : (es : Chains Entry 16) (ss ss' : Chains Slip 24) (k login : ℕ) (r : Option Slip) → k + 1 ≡ login → k < length (lists ss) → r ≡ asks.oldest (get_or (lists ss) k []) →
+    lists ss' ≡ changed (drop 1) (lists ss) k → places ss' ≡ places ss → Dropped (book_in es ss) login (seen_oldest r) (book_in es ss')
+one_gone es ss ss' k login r e h er el ep =
+    let sss = seen_slips ss in
+    let now : seen_slips ss' ≡ changed younger sss k = ap (map (map seen_slip)) el ∙ changed_seen seen_slip (drop 1) younger (lists ss) k h (drop_seen (get_or (lists ss) k [])) in
+    let named : (dropped (book_in es ss) login).slips ≡ changed younger sss k = put_place sss k login _ e ∙ ap (λ v. set sss k (younger v)) (at_place [] sss k login e) in
+    (shown es ss k login r e h er, same_book (book_in es ss') (dropped (book_in es ss) login) refl (now ∙ sym named) ep)
 
 -- ---- nothing in the tables
 

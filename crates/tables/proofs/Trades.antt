@@ -4,7 +4,7 @@ use borrow.Author.Tests.{lt-leb}
 use Rattle.std.proofs.lemmas.List.{length-map, map-append}
 use Rattle.std.proofs.lemmas.List.Sums.{sum_by-cons}
 use Rattle.std.proofs.lemmas.Bool.{cases_Bool, cases_lt, cond-true, cond-false, and_parts, eqb-true, eq-eqb, ne_eqb}
-use Rattle.chains.specs.Sound.{Kept}
+use Rattle.chains.specs.declared.table.Chains.{Chains}
 use Rattle.chains.specs.Asks.{oldest, first_becomes}
 use Rattle.chains.specs.Lists.{lists, places, changed, appended}
 use Rattle.chains.proofs.Totals.{total_appended}
@@ -15,9 +15,10 @@ use Rattle.market.specs.Book as book
 use Rattle.market.specs.Book.{Book, total, totals, count, counts, is_for, slip_count, slip_of, with_resting, with_slips_of, waiting_of}
 use Rattle.market.specs.Market.{fills, less, keep, filled_in, side_traded, slips_full}
 use Rattle.market.specs.Seen.{seen, seen_slip}
-use Rattle.tables.specs.declared.held.Tables.{Tables}
+use Rattle.tables.specs.declared.state.Tables.{Tables}
 use Rattle.tables.specs.Cross.{on_side, fill_of, names, Stands}
-use Rattle.tables.specs.Held.{book_of, resting_of, slips_of, Few, Apart, Good}
+use Rattle.tables.specs.Kept.{seen_entries, seen_slips, Few, Apart}
+use Rattle.tables.specs.Held.{book_in, book_of, resting_of, slips_of}
 use Rattle.tables.proofs.Listed.{cond_out, count_kept}
 use Rattle.tables.proofs.Places.{at_place, put_place}
 use Rattle.tables.proofs.Books.{counts_narrower}
@@ -166,29 +167,33 @@ totals_other f s ne (es ∷ ess) = omega (arith, total_other f s ne es, totals_o
 
 -- ---- an entry filled
 
-pub record Filled (t t' : Tables) (e : book.Entry) (n : ℕ) : Type 0 where
-  pub good : Good t'
-  pub filled : (price : ℕ) → resting_of t' ≡ map (filled_in (fill_of e n price)) (resting_of t)
-  pub own : totals (on_side e.side) (resting_of t') + n ≡ totals (on_side e.side) (resting_of t)
-  pub others : (side : ℕ) → (e.side ≡ side → ⊥) → totals (on_side side) (resting_of t') ≡ totals (on_side side) (resting_of t)
+pub record Filled (es es' : Chains Entry 16) (e : book.Entry) (n : ℕ) : Type 0 where
+  pub few : Few (seen_entries es')
+  pub apart : Apart (seen_entries es')
+  pub filled : (price : ℕ) → seen_entries es' ≡ map (filled_in (fill_of e n price)) (seen_entries es)
+  pub own : totals (on_side e.side) (seen_entries es') + n ≡ totals (on_side e.side) (seen_entries es)
+  pub others : (side : ℕ) → (e.side ≡ side → ⊥) → totals (on_side side) (seen_entries es') ≡ totals (on_side side) (seen_entries es)
 
-pub filled : (t t' : Tables) (k : ℕ) (x : Entry) (n : ℕ) (zs : List Entry) → Good t → k < length (lists t.entries) → Stands (get_or (resting_of t) k []) (seen x) → n ≤ x.contracts.value → map seen zs ≡ keep (less n (seen x)) [] →
-    Kept t'.entries → lists t'.entries ≡ changed (first_becomes (λ e. names (seen x) (seen e)) zs) (lists t.entries) k → places t'.entries ≡ places t.entries → t'.slips ≡ t.slips → Filled t t' (seen x) n
-filled t t' k x n zs g h o le ez kept el ep es =
-    let ess = resting_of t in
-    let kl : k < length ess = omega (arith, length-map (lists t.entries) (map seen)) in
-    let one : counts (names (seen x)) ess ≤ 1 = omega (arith, counts_narrower (names (seen x)) (is_for x.login.value x.number.value) (λ e y. (and_parts _ _ y).0) ess, g.3 x.login.value x.number.value) in
-    let first = changed_seen seen (first_becomes (λ e. names (seen x) (seen e)) zs) (first_becomes (names (seen x)) (map seen zs)) (lists t.entries) k h (first_map seen (names (seen x)) zs (get_or (lists t.entries) k [])) in
-    let now : (price : ℕ) → resting_of t' ≡ map (filled_in (fill_of (seen x) n price)) ess =
+pub filled : (es es' : Chains Entry 16) (k s : ℕ) (x : Entry) (n : ℕ) (zs : List Entry) → Few (seen_entries es) → Apart (seen_entries es) → k + 1 ≡ s → k < length (lists es) → Stands (get_or (seen_entries es) (s - 1) []) (seen x) →
+    n ≤ x.contracts.value → map seen zs ≡ keep (less n (seen x)) [] → lists es' ≡ changed (first_becomes (λ e. names (seen x) (seen e)) zs) (lists es) k → Filled es es' (seen x) n
+filled es es' k s x n zs few apart ks h stands le ez el =
+    let ess = seen_entries es in
+    let place : s - 1 ≡ k = omega arith in
+    let S : ℕ → Type 0 = λ v. Stands (get_or ess v []) (seen x) in
+    let o = subst S place stands in
+    let kl : k < length ess = omega (arith, length-map (lists es) (map seen)) in
+    let one : counts (names (seen x)) ess ≤ 1 = omega (arith, counts_narrower (names (seen x)) (is_for x.login.value x.number.value) (λ e y. (and_parts _ _ y).0) ess, apart x.login.value x.number.value) in
+    let first = changed_seen seen (first_becomes (λ e. names (seen x) (seen e)) zs) (first_becomes (names (seen x)) (map seen zs)) (lists es) k h (first_map seen (names (seen x)) zs (get_or (lists es) k [])) in
+    let now : (price : ℕ) → seen_entries es' ≡ map (filled_in (fill_of (seen x) n price)) ess =
     λ price. ap (map (map seen)) el ∙ first ∙ ap (λ v. changed (first_becomes (names (seen x)) v) ess k) ez ∙ fill_lists (fill_of (seen x) n price) ess k (seen x) kl one o in
     let P : List (List book.Entry) → Type 0 = Few in
     let Q : List (List book.Entry) → Type 0 = Apart in
     let f = fill_of (seen x) n 0 in
-    let few : Few (map (filled_in f) ess) = λ l. omega (arith, counts_filled f (λ e. eqb e.login l) (λ e. refl) ess, g.2 l) in
-    let apart : Apart (map (filled_in f) ess) = λ l m. omega (arith, counts_filled f (is_for l m) (λ e. refl) ess, g.3 l m) in
-    let kept_slips : Kept t'.slips = subst (λ v. Kept v) (sym es) g.1 in
+    let fewer : Few (map (filled_in f) ess) = λ l. omega (arith, counts_filled f (λ e. eqb e.login l) (λ e. refl) ess, few l) in
+    let still : Apart (map (filled_in f) ess) = λ l m. omega (arith, counts_filled f (is_for l m) (λ e. refl) ess, apart l m) in
     record {
-      good = (kept, kept_slips, subst P (sym (now 0)) few, subst Q (sym (now 0)) apart, omega (arith, ep, g.4));
+      few = subst P (sym (now 0)) fewer;
+      apart = subst Q (sym (now 0)) still;
       filled = now;
       own = omega (arith, ap (totals (on_side (seen x).side)) (now 0), totals_one f ess k (seen x) kl one o le);
       others = λ side ne. ap (totals (on_side side)) (now 0) ∙ totals_other f side ne ess;
@@ -218,25 +223,23 @@ slip_count_seen (xs ∷ ls) = omega (arith, slip_count_seen ls, length-map xs se
 pub slips_counted : (t : Tables) → slip_count (slips_of t) ≡ sum_by length (lists t.slips)
 slips_counted t = slip_count_seen (lists t.slips)
 
-pub record Handed (t t' : Tables) (login : ℕ) (s : Slip) : Type 0 where
-  pub good : Good t'
-  pub given : book_of t' ≡ with_slips_of (book_of t) login (waiting_of (book_of t) login ++ seen_slip s ∷ [])
-  pub more : slip_count (slips_of t') ≡ slip_count (slips_of t) + 1
+pub record Handed (es : Chains Entry 16) (ss ss' : Chains Slip 24) (login : ℕ) (s : Slip) : Type 0 where
+  pub given : book_in es ss' ≡ with_slips_of (book_in es ss) login (waiting_of (book_in es ss) login ++ seen_slip s ∷ [])
+  pub more : slip_count (seen_slips ss') ≡ slip_count (seen_slips ss) + 1
 
-pub handed : (t t' : Tables) (k login : ℕ) (s : Slip) (r : Bool) → Good t → k + 1 ≡ login → k < length (lists t.slips) → slip_count (slips_of t) < places t.slips →
-    Kept t'.slips → r ≡ ltb (sum_by length (lists t.slips)) (places t.slips) → lists t'.slips ≡ cond r (appended (lists t.slips) k s) (lists t.slips) →
-    places t'.slips ≡ places t.slips → t'.entries ≡ t.entries → Handed t t' login s
-handed t t' k login s r g e h lt kept er el ep ee =
-    let yes : r ≡ true = er ∙ lt-ltb _ _ (omega (arith, lt, slip_count_seen (lists t.slips))) in
+pub handed : (es : Chains Entry 16) (ss ss' : Chains Slip 24) (k login : ℕ) (s : Slip) (r : Bool) → k + 1 ≡ login → k < length (lists ss) → slip_count (seen_slips ss) < places ss →
+    r ≡ ltb (sum_by length (lists ss)) (places ss) → lists ss' ≡ cond r (appended (lists ss) k s) (lists ss) → places ss' ≡ places ss → Handed es ss ss' login s
+handed es ss ss' k login s r e h lt er el ep =
+    let yes : r ≡ true = er ∙ lt-ltb _ _ (omega (arith, lt, slip_count_seen (lists ss))) in
     let now = el ∙ cond-true r _ _ yes in
-    let sss = slips_of t in
-    let seen_now : slips_of t' ≡ appended sss k (seen_slip s) = ap (map (map seen_slip)) now ∙ appended_seen seen_slip (lists t.slips) k s h in
-    let after = with_slips_of (book_of t) login (waiting_of (book_of t) login ++ seen_slip s ∷ []) in
+    let sss = seen_slips ss in
+    let seen_now : seen_slips ss' ≡ appended sss k (seen_slip s) = ap (map (map seen_slip)) now ∙ appended_seen seen_slip (lists ss) k s h in
+    let b = book_in es ss in
+    let after = with_slips_of b login (waiting_of b login ++ seen_slip s ∷ []) in
     let named : after.slips ≡ appended sss k (seen_slip s) = put_place sss k login _ e ∙ ap (λ v. set sss k (v ++ seen_slip s ∷ [])) (at_place [] sss k login e) in
     record {
-      good = subst (λ v. Good (record { entries = v; slips = t'.slips })) (sym ee) (g.0, kept, g.2, g.3, g.4);
-      given = same_book (book_of t') after (ap (λ v. map (map seen) (lists v)) ee) (seen_now ∙ sym named) ep;
-      more = omega (arith, slip_count_seen (lists t.slips), slip_count_seen (lists t'.slips), ap (λ v. sum_by length v) now, total_appended (lists t.slips) k s h);
+      given = same_book (book_in es ss') after refl (seen_now ∙ sym named) ep;
+      more = omega (arith, slip_count_seen (lists ss), slip_count_seen (lists ss'), ap (λ v. sum_by length v) now, total_appended (lists ss) k s h);
     }
 
 -- ---- room for two slips

@@ -1,11 +1,13 @@
 -- Where a market trades: the lowest series that crosses, with its best buy and its best sell; and one side of a trade. Assumes nothing.
-use Rattle.std.specs.Prelude.{◌≡◌, ℕ, suc, ◌+◌, ◌≤◌, Bool, false, cond, not, ◌&&◌, ◌||◌, List, [], ◌∷◌, Some, None, Ok, Err, filter, Option, Result, ◌==◌, nat_le, nat_lt}
+use Rattle.std.specs.Prelude.{◌≡◌, ℕ, suc, ◌+◌, ◌-◌, ◌≤◌, Bool, false, cond, not, ◌&&◌, ◌||◌, List, [], ◌∷◌, Some, None, Ok, Err, filter, Option, Result, ◌==◌, nat_le, nat_lt}
 use Rattle.std.specs.Option.{option_map}
 use Rattle.terms.specs.declared.refusal.Refusal.{Refusal}
 use Rattle.terms.specs.declared.events.Trade.{Trade}
 use Rattle.terms.specs.declared.messages.Fill.{Fill}
+use Rattle.terms.specs.declared.kinds.Side.{Side}
+use Rattle.terms.specs.declared.kinds.Side.TheVariants.{Buy, Sell}
 use Rattle.chains.specs.Asks.{oldest, best}
-use Rattle.terms.specs.Tables.{any_of}
+use Rattle.terms.specs.Tables.{at, any_of}
 use Rattle.market.specs.Book.{Entry, Book, is_for, totals}
 use Rattle.market.specs.Market.{cross}
 use Rattle.market.specs.Seen.{seen}
@@ -33,6 +35,15 @@ best_buy es = best dearer (filter (on_side 1) es)
 
 unfoldable pub best_sell : List Entry → Option Entry
 best_sell es = best cheaper (filter (on_side 2) es)
+
+-- the two by side: which of two prices is the better, and which entry is the best
+abbrev pub beats : Side → Entry → Entry → Bool
+beats Buy = dearer
+beats Sell = cheaper
+
+abbrev pub best_on : Side → List Entry → Option Entry
+best_on Buy = best_buy
+best_on Sell = best_sell
 
 pub record Pair : Type 0 where
   pub buy : Entry
@@ -70,9 +81,13 @@ crossing_from k (es ∷ ess) = or_else (option_map (λ p. record { series = k; p
 abbrev pub lowest : List (List Entry) → Option Crossing
 lowest ess = crossing_from 0 ess
 
+-- the series of a number, from 1, where it crosses
+abbrev pub crossing_at : List (List Entry) → (number : ℕ) → Option Crossing
+crossing_at ess number = option_map (λ p. record { series = number - 1; pair = p }) (pair_in (at [] ess number))
+
 -- a crossing of the code, in plain numbers
 abbrev pub seen_crossing : code.Crossing → Crossing
-seen_crossing x = record { series = x.series; pair = record { buy = seen x.buy; sell = seen x.sell } }
+seen_crossing x = record { series = x.series.value - 1; pair = record { buy = seen x.buy; sell = seen x.sell } }
 
 -- ---- which of two is older
 
@@ -80,6 +95,13 @@ seen_crossing x = record { series = x.series; pair = record { buy = seen x.buy; 
 abbrev pub before : (a b : Entry) → List Entry → Bool
 before a b [] = false
 before a b (e ∷ es) = is_for a.login a.number e || (not (is_for b.login b.number e) && before a b es)
+
+-- the older and the younger of a buy and a sell
+abbrev pub older : List Entry → Pair → Entry
+older es p = cond (before p.buy p.sell es) p.buy p.sell
+
+abbrev pub younger : List Entry → Pair → Entry
+younger es p = cond (before p.buy p.sell es) p.sell p.buy
 
 -- ---- one side of a trade
 

@@ -1,11 +1,11 @@
 //! A buy and a sell that cross.
 
-use terms::Entry;
+use terms::{Entry, Series};
 
-/// A series, by its place from 0, with a buy and a sell of it that cross.
-#[derive(Clone, Copy)]
+/// A series with a buy and a sell of it that cross.
+#[derive(Clone, Copy, Debug, PartialEq, Eq)]
 pub struct Crossing {
-    pub series: usize,
+    pub series: Series,
     pub buy: Entry,
     pub sell: Entry,
 }

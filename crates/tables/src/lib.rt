@@ -6,7 +6,9 @@ mod cross;
 mod held;
 mod levels;
 mod picks;
+mod state;
 mod strikes;
 
 pub use cross::Crossing;
-pub use held::{Tables, long_enough};
+pub use held::long_enough;
+pub use state::Tables;

@@ -4,7 +4,7 @@ ghost use Rattle.std.specs.Prelude.{◌≡◌, ◌||◌, ◌==◌};
 ghost use Rattle.terms.specs.Kinds.{reach_number, kind_number, side_number};
 ghost use Rattle.market.specs.Book.{is_for, in_reach, reaches as reaches_kind};
 ghost use Rattle.market.specs.Seen.{seen};
-ghost use Rattle.tables.specs.Cross.{on_side, at_price, names, dearer, cheaper};
+ghost use Rattle.tables.specs.Cross.{on_side, at_price, names, beats};
 
 use chains::{Order, Test, Weight};
 use terms::{Entry, Kind, Login, OrderNumber, Price, Reach, Side};
@@ -20,7 +20,7 @@ impl Test<Entry> for IsFor {
     ghost meets = { λ t e. is_for t.login.value t.number.value (seen e) };
 
     fn meets(&self, e: &Entry) -> bool {
-        e.login.number() == self.login.number() && e.number.number() == self.number.number()
+        e.login == self.login && e.number == self.number
     }
 }
 
@@ -34,7 +34,7 @@ impl Test<Entry> for OfLogin {
     ghost meets = { λ t e. ((seen e).login == t.login.value) };
 
     fn meets(&self, e: &Entry) -> bool {
-        e.login.number() == self.login.number()
+        e.login == self.login
     }
 }
 
@@ -49,7 +49,7 @@ impl Test<Entry> for InReach {
     ghost meets = { λ t e. in_reach t.login.value (reach_number t.reach) (seen e) };
 
     fn meets(&self, e: &Entry) -> bool {
-        e.login.number() == self.login.number() && reaches(self.reach, e.kind)
+        e.login == self.login && reaches(self.reach, e.kind)
     }
 }
 
@@ -57,17 +57,10 @@ impl Test<Entry> for InReach {
 fn reaches(reach: Reach, kind: Kind) -> bool
     ensures { result ≡ reaches_kind (reach_number reach) (kind_number kind) }
 {
-    match reach {
-        Reach::Both => true,
-        Reach::Quotes => match kind {
-            Kind::Quote => true,
-            Kind::Order => false,
-        },
-        Reach::Orders => match kind {
-            Kind::Quote => false,
-            Kind::Order => true,
-        },
-    }
+    matches!(
+        (reach, kind),
+        (Reach::Both, _) | (Reach::Quotes, Kind::Quote) | (Reach::Orders, Kind::Order)
+    )
 }
 
 /// The contracts that an entry has left.
@@ -92,22 +85,7 @@ impl Test<Entry> for OnSide {
     ghost meets = { λ t e. on_side (side_number t.side) (seen e) };
 
     fn meets(&self, e: &Entry) -> bool {
-        same_side(e.side, self.side)
-    }
-}
-
-fn same_side(a: Side, b: Side) -> bool
-    ensures { result ≡ (side_number a == side_number b) }
-{
-    match a {
-        Side::Buy => match b {
-            Side::Buy => true,
-            Side::Sell => false,
-        },
-        Side::Sell => match b {
-            Side::Buy => false,
-            Side::Sell => true,
-        },
+        e.side == self.side
     }
 }
 
@@ -122,7 +100,7 @@ impl Test<Entry> for AtPrice {
     ghost meets = { λ t e. at_price (side_number t.side) t.price.value (seen e) };
 
     fn meets(&self, e: &Entry) -> bool {
-        same_side(e.side, self.side) && e.price.number() == self.price.number()
+        e.side == self.side && e.price == self.price
     }
 }
 
@@ -136,9 +114,7 @@ impl Test<Entry> for Names {
     ghost meets = { λ t e. names (seen t.entry) (seen e) };
 
     fn meets(&self, e: &Entry) -> bool {
-        e.login.number() == self.entry.login.number()
-            && e.number.number() == self.entry.number.number()
-            && same_side(e.side, self.entry.side)
+        e.login == self.entry.login && e.number == self.entry.number && e.side == self.entry.side
     }
 }
 
@@ -157,26 +133,19 @@ impl Test<Entry> for Either {
     }
 }
 
-/// The higher price first.
-#[derive(Drop)]
-pub(crate) struct Dearest;
-
-impl Order<Entry> for Dearest {
-    ghost better = { λ _ a b. dearer (seen a) (seen b) };
-
-    fn better(&self, a: &Entry, b: &Entry) -> bool {
-        b.price.number() < a.price.number()
-    }
+/// The better price for the other side first: of two buys the higher, of two sells the lower.
+#[derive(Clone, Copy)]
+pub(crate) struct Best {
+    pub(crate) side: Side,
 }
 
-/// The lower price first.
-#[derive(Drop)]
-pub(crate) struct Cheapest;
-
-impl Order<Entry> for Cheapest {
-    ghost better = { λ _ a b. cheaper (seen a) (seen b) };
+impl Order<Entry> for Best {
+    ghost better = { λ o a b. beats o.side (seen a) (seen b) };
 
     fn better(&self, a: &Entry, b: &Entry) -> bool {
-        a.price.number() < b.price.number()
+        match self.side {
+            Side::Buy => b.price < a.price,
+            Side::Sell => a.price < b.price,
+        }
     }
 }

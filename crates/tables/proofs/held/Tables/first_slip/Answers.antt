@@ -1,7 +1,0 @@
--- The first of the login's chain.
-use Rattle.std.proofs.Common.{arith}
-use Rattle.tables.proofs.Slips.{shown}
-use Rattle.tables.proofs.held.Tables.first_slip.Goals as goal
-
-pub returns : goal.returns
-returns c = shown c.args.self.now c.index.result c.args.login.value _ c.index.ensures.place (omega (arith, c.facts.ensures.count, c.index.ensures.bound)) c.front.ensures

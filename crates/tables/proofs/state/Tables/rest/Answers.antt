@@ -1,0 +1,43 @@
+-- In use, at 16, or one more.
+use Rattle.std.proofs.Common.{eqb, arith}
+use Rattle.chains.specs.Lists.{lists}
+use Rattle.market.specs.Book.{is_for}
+use Rattle.market.specs.Seen.{seen}
+use Rattle.tables.specs.Held.{book_of}
+use Rattle.tables.proofs.Listed.{counts_seen}
+use Rattle.tables.proofs.Rest.{More, in_use, at_16, one_more}
+use Rattle.tables.proofs.state.Tables.rest.Goals as goal
+use Rattle.tables.proofs.state.Tables.rest.Goals.{After-push_back}
+
+pub returns-then-used-gt0 : goal.returns-then-used-gt0
+returns-then-used-gt0 c =
+    let x = c.args.entry in
+    let n = counts_seen (is_for x.login.value x.number.value) (lists c.args.self.now.entries) in
+    in_use (book_of c.args.self.now) c.args.series.value (seen x) (omega (arith, n, c.count_of-used.ensures, c.if-used-gt0.true))
+
+pub returns-then-resting-ge-ALLOTMENT : goal.returns-then-resting-ge-ALLOTMENT
+returns-then-resting-ge-ALLOTMENT c =
+    let x = c.args.entry in
+    let n = counts_seen (is_for x.login.value x.number.value) (lists c.args.self.now.entries) in
+    let m = counts_seen (λ e. eqb e.login x.login.value) (lists c.args.self.now.entries) in
+    at_16 (book_of c.args.self.now) c.args.series.value (seen x) (omega (arith, n, c.count_of-used.ensures, c.if-used-gt0.false))
+    (omega (arith, m, c.count_of-resting.ensures, c.if-resting-ge-ALLOTMENT.true))
+
+more : (c : goal.After-push_back) → More c.args.self.now.entries c.push_back.new.self c.args.self.now.slips c.args.series.value c.args.entry
+more c =
+    let t = c.args.self.now in
+    let x = c.args.entry in
+    let n = counts_seen (is_for x.login.value x.number.value) (lists t.entries) in
+    let m = counts_seen (λ e. eqb e.login x.login.value) (lists t.entries) in
+    one_more t.entries c.push_back.new.self t.slips c.index.result c.args.series.value x c.push_back.result t.few t.apart t.room c.index.ensures.place
+    (omega (arith, c.facts.ensures.count, c.index.ensures.bound)) (omega (arith, n, c.count_of-used.ensures, c.if-used-gt0.false))
+    (omega (arith, m, c.count_of-resting.ensures, c.if-resting-ge-ALLOTMENT.false)) c.push_back.ensures.room c.push_back.ensures.pushed
+
+pub invariant_of-self-clause-few : goal.invariant_of-self-clause-few
+invariant_of-self-clause-few c = (more c).few
+
+pub invariant_of-self-clause-apart : goal.invariant_of-self-clause-apart
+invariant_of-self-clause-apart c = (more c).apart
+
+pub returns : goal.returns
+returns c = (more (goal.at.returns c).After-push_back).does

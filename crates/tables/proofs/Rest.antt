@@ -1,5 +1,5 @@
 -- An entry more: where it is refused, and what it leaves.
-use Rattle.std.proofs.Common.{◌≡◌, ℕ, ◌+◌, ◌<◌, ◌≤◌, Bool, true, false, cond, eqb, ltb, leb, List, [], ◌∷◌, ◌++◌, map, length, get_or, set, Some, None, Ok, Err, sum_by, sym, refl, ap, ◌∙◌, subst, ⊎_elim, arith, le-ltb, lt-ltb, le-leb}
+use Rattle.std.proofs.Common.{◌≡◌, ℕ, ◌+◌, ◌<◌, ◌≤◌, Bool, true, false, cond, eqb, leb, List, [], ◌∷◌, ◌++◌, map, length, get_or, set, Some, None, Ok, Err, sum_by, sym, refl, ap, ◌∙◌, subst, ⊎_elim, arith, le-ltb, lt-ltb, le-leb}
 use borrow.Author.Tests.{lt-leb}
 use Rattle.std.proofs.lemmas.List.{length-map, map-set, map_push, get_or-map}
 use Rattle.std.proofs.lemmas.Bool.{cases_eq, cases_Bool, cond-true, cond-false, and_parts, eqb-true, ne_eqb}
@@ -66,15 +66,14 @@ pub record More (es es' : Chains Entry 16) (ss : Chains Slip 24) (s : ℕ) (x : 
   pub apart : Apart (seen_entries es')
   pub does : Rested (book_in es ss) s (seen x) (Ok tt) (book_in es' ss)
 
-pub one_more : (es es' : Chains Entry 16) (ss : Chains Slip 24) (k s : ℕ) (x : Entry) (r : Bool) → Few (seen_entries es) → Apart (seen_entries es) → 384 ≤ places es → k + 1 ≡ s → k < length (lists es) →
+pub one_more : (es es' : Chains Entry 16) (ss : Chains Slip 24) (k s : ℕ) (x : Entry) → Few (seen_entries es) → Apart (seen_entries es) → 384 ≤ places es → k + 1 ≡ s → k < length (lists es) →
     counts (is_for (seen x).login (seen x).number) (seen_entries es) ≡ 0 → counts (λ e. eqb e.login (seen x).login) (seen_entries es) < 16 →
-    r ≡ ltb (sum_by length (lists es)) (places es) → lists es' ≡ cond r (appended (lists es) k x) (lists es) → More es es' ss s x
-one_more es es' ss k s x r few apart room e kl z lt er el =
+    (sum_by length (lists es) < places es → lists es' ≡ appended (lists es) k x) → More es es' ss s x
+one_more es es' ss k s x few apart room e kl z lt pushed =
     let left = room_left 24 (λ e. e.login.high) (lists es) x.login.value few x.login.low x.login.high lt in
-    let yes : r ≡ true = er ∙ lt-ltb _ _ (omega (arith, left, room)) in
     let ess = seen_entries es in
     let kl2 : k < length ess = omega (arith, length-map (lists es) (map seen)) in
-    let now : seen_entries es' ≡ appended ess k (seen x) = ap (map (map seen)) (el ∙ cond-true r _ _ yes) ∙ appended_seen seen (lists es) k x kl in
+    let now : seen_entries es' ≡ appended ess k (seen x) = ap (map (map seen)) (pushed (omega (arith, left, room))) ∙ appended_seen seen (lists es) k x kl in
     let P : List (List book.Entry) → Type 0 = Few in
     let Q : List (List book.Entry) → Type 0 = Apart in
     let b = book_in es ss in

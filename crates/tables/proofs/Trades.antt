@@ -1,5 +1,5 @@
 -- One side of a trade: its entry filled in place, and its slip.
-use Rattle.std.proofs.Common.{◌≡◌, ℕ, zero, suc, ◌+◌, ◌-◌, ◌<◌, ◌≤◌, Bool, true, false, cond, not, eqb, ltb, leb, ◌⊎◌, List, [], ◌∷◌, ◌++◌, map, length, get_or, set, Some, sum_by, filter, sym, refl, ap, ◌∙◌, subst, inl, inr, ⊎_elim, arith, le-ltb, lt-ltb, le-leb}
+use Rattle.std.proofs.Common.{◌≡◌, ℕ, zero, suc, ◌+◌, ◌-◌, ◌<◌, ◌≤◌, Bool, true, false, cond, not, eqb, leb, ◌⊎◌, List, [], ◌∷◌, ◌++◌, map, length, get_or, set, Some, sum_by, filter, sym, refl, ap, ◌∙◌, subst, inl, inr, ⊎_elim, arith, le-ltb, lt-ltb, le-leb}
 use borrow.Author.Tests.{lt-leb}
 use Rattle.std.proofs.lemmas.List.{length-map, map-append}
 use Rattle.std.proofs.lemmas.List.Sums.{sum_by-cons}
@@ -227,11 +227,10 @@ pub record Handed (es : Chains Entry 16) (ss ss' : Chains Slip 24) (login : ℕ)
   pub given : book_in es ss' ≡ with_slips_of (book_in es ss) login (waiting_of (book_in es ss) login ++ seen_slip s ∷ [])
   pub more : slip_count (seen_slips ss') ≡ slip_count (seen_slips ss) + 1
 
-pub handed : (es : Chains Entry 16) (ss ss' : Chains Slip 24) (k login : ℕ) (s : Slip) (r : Bool) → k + 1 ≡ login → k < length (lists ss) → slip_count (seen_slips ss) < places ss →
-    r ≡ ltb (sum_by length (lists ss)) (places ss) → lists ss' ≡ cond r (appended (lists ss) k s) (lists ss) → places ss' ≡ places ss → Handed es ss ss' login s
-handed es ss ss' k login s r e h lt er el ep =
-    let yes : r ≡ true = er ∙ lt-ltb _ _ (omega (arith, lt, slip_count_seen (lists ss))) in
-    let now = el ∙ cond-true r _ _ yes in
+pub handed : (es : Chains Entry 16) (ss ss' : Chains Slip 24) (k login : ℕ) (s : Slip) → k + 1 ≡ login → k < length (lists ss) → slip_count (seen_slips ss) < places ss →
+    (sum_by length (lists ss) < places ss → lists ss' ≡ appended (lists ss) k s) → places ss' ≡ places ss → Handed es ss ss' login s
+handed es ss ss' k login s e h lt pushed ep =
+    let now = pushed (omega (arith, lt, slip_count_seen (lists ss))) in
     let sss = seen_slips ss in
     let seen_now : seen_slips ss' ≡ appended sss k (seen_slip s) = ap (map (map seen_slip)) now ∙ appended_seen seen_slip (lists ss) k s h in
     let b = book_in es ss in

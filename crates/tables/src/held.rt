@@ -3,7 +3,6 @@
 ghost use Rattle.std.specs.Prelude.{◌≡◌, ◌-◌, ◌≤◌, map, length, IfOk};
 ghost use Rattle.terms.specs.Kinds.{reach_number};
 ghost use Rattle.market.specs.Book.{empty as empty_book};
-ghost use Rattle.chains.specs.Sound.{Kept};
 ghost use Rattle.chains.specs.Asks.{without_all, saturated};
 ghost use Rattle.chains.specs.Lists.{lists, places as places_of};
 ghost use Rattle.market.specs.Market.{Rested, Withdrawn, Swept, Shown, Dropped, Bare};
@@ -27,8 +26,6 @@ const SLIP_SLOTS: usize = 65;
 
 /// Takes off every entry that meets the test, and gives their contracts; the largest u64 stands for all above it.
 fn take_off<P: Test<Entry>>(entries: &mut Chains<'_, Entry, 16>, test: &P) -> u64
-    requires { Kept entries.old }
-    ensures kept { Kept entries.new }
     ensures sum { result ≡ saturated (weighed (λ e. e.contracts.value) (P.Test.meets test.now) (lists entries.old)) }
     ensures left { lists entries.new ≡ map (without_all (P.Test.meets test.now)) (lists entries.old) }
     ensures places { places_of entries.new ≡ places_of entries.old }

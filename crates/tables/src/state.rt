@@ -1,7 +1,6 @@
 //! The two lent tables of a market, with what is always so of them.
 
 ghost use Rattle.std.specs.Prelude.{◌≤◌};
-ghost use Rattle.chains.specs.Sound.{Kept};
 ghost use Rattle.chains.specs.Lists.{places};
 ghost use Rattle.tables.specs.Kept.{seen_entries, Few, Apart};
 
@@ -13,8 +12,6 @@ use terms::{Entry, Slip};
 pub struct Tables<'a> {
     pub(crate) entries: Chains<'a, Entry, 16>,
     pub(crate) slips: Chains<'a, Slip, 24>,
-    ghost entries_kept: { Kept entries },
-    ghost slips_kept: { Kept slips },
     ghost few: { Few (seen_entries entries) },
     ghost apart: { Apart (seen_entries entries) },
     ghost room: { 384 ≤ places entries },

@@ -14,11 +14,10 @@ loop-k-preserved g c =
     let k = c.loop-k.k in
     let lt : k < length ls = omega (arith, c.facts.ensures.count) in
     let i = c.loop-k.invariant in
-    let same = ap (λ v. get_or v k []) i.2 ∙ done_at (without_all p) k ls in (
-      c.remove_all.ensures.kept,
-      weighed_more (λ e. e.contracts.value) p ls (lists c.loop-k.entries) k _ _ _ lt same i.1 c.remove_all.ensures.sum c.saturating_add-sum.ensures,
-      c.remove_all.ensures.left ∙ ap (λ v. changed (without_all p) v k) i.2 ∙ done_more (without_all p) k ls lt,
-      c.remove_all.ensures.places ∙ i.3,
+    let same = ap (λ v. get_or v k []) i.1 ∙ done_at (without_all p) k ls in (
+      weighed_more (λ e. e.contracts.value) p ls (lists c.loop-k.entries) k _ _ _ lt same i.0 c.remove_all.ensures.sum c.saturating_add-sum.ensures,
+      c.remove_all.ensures.left ∙ ap (λ v. changed (without_all p) v k) i.1 ∙ done_more (without_all p) k ls lt,
+      c.remove_all.ensures.places ∙ i.2,
     )
 
 pub returns : goal.returns
@@ -28,8 +27,7 @@ returns g c =
     let le : length ls ≤ c.loop-k.k = omega (arith, c.facts.ensures.count) in
     let i = c.loop-k.invariant in
     record {
-      kept = i.0;
-      sum = i.1 ∙ ap (λ v. saturated (weighed (λ e. e.contracts.value) p v)) (take_all c.loop-k.k ls le);
-      left = i.2 ∙ done_all (without_all p) c.loop-k.k ls le;
-      places = i.3;
+      sum = i.0 ∙ ap (λ v. saturated (weighed (λ e. e.contracts.value) p v)) (take_all c.loop-k.k ls le);
+      left = i.1 ∙ done_all (without_all p) c.loop-k.k ls le;
+      places = i.2;
     }

@@ -4,7 +4,7 @@ use Rattle.chains.specs.Lists.{lists}
 use Rattle.market.specs.Book.{is_for}
 use Rattle.market.specs.Seen.{seen}
 use Rattle.tables.specs.Held.{book_of}
-use Rattle.tables.proofs.Listed.{counts_seen}
+use Rattle.tables.proofs.Listed.{counts_seen, was_pushed}
 use Rattle.tables.proofs.Rest.{More, in_use, at_16, one_more}
 use Rattle.tables.proofs.state.Tables.rest.Goals as goal
 use Rattle.tables.proofs.state.Tables.rest.Goals.{After-push_back}
@@ -29,9 +29,9 @@ more c =
     let x = c.args.entry in
     let n = counts_seen (is_for x.login.value x.number.value) (lists t.entries) in
     let m = counts_seen (λ e. eqb e.login x.login.value) (lists t.entries) in
-    one_more t.entries c.push_back.new.self t.slips c.index.result c.args.series.value x c.push_back.result t.few t.apart t.room c.index.ensures.place
+    one_more t.entries c.push_back.new.self t.slips c.index.result c.args.series.value x t.few t.apart t.room c.index.ensures.place
     (omega (arith, c.facts.ensures.count, c.index.ensures.bound)) (omega (arith, n, c.count_of-used.ensures, c.if-used-gt0.false))
-    (omega (arith, m, c.count_of-resting.ensures, c.if-resting-ge-ALLOTMENT.false)) c.push_back.ensures.room c.push_back.ensures.pushed
+    (omega (arith, m, c.count_of-resting.ensures, c.if-resting-ge-ALLOTMENT.false)) (was_pushed c.push_back.result c.push_back.ensures.fits c.push_back.ensures.pushed)
 
 pub invariant_of-self-clause-few : goal.invariant_of-self-clause-few
 invariant_of-self-clause-few c = (more c).few

@@ -6,7 +6,7 @@ use crate::rows::Row;
 use checks::Check;
 use market::Market;
 
-/// A gate over a market and checks that are lent to it: the clock, which series have values, the logins' rows, and the causes of the firms' holds, 0 for none.
+/// A gate over a market and checks that are lent to it: the clock, which series have values, the logins' rows, and the causes of the firms' holds: plain numbers as they are answered, 0 for none.
 #[derive(Drop)]
 pub struct Gate<'g, M: Market, C: Check> {
     pub(crate) market: &'g mut M,

@@ -22,7 +22,7 @@ pub enum Standing {
     Leaving(Session),
 }
 
-/// A hold is its cause, 0 where there is none. A slip that is out was taken, and is neither receipted nor put back.
+/// A hold is its cause, a plain number as it is answered, 0 where there is none. A slip that is out was taken, and is neither receipted nor put back.
 #[derive(Clone, Copy)]
 pub struct Row {
     pub standing: Standing,

@@ -1,5 +1,5 @@
 -- The numbers of the words that have few values, and how a number is read as one. Assumes nothing.
-use Rattle.std.specs.Prelude.{ℕ, ◌+◌, Bool, true, false, cond, List, [], ◌∷◌, Some, None, Option, ◌==◌}
+use Rattle.std.specs.Prelude.{ℕ, ◌+◌, Bool, true, false, cond, List, [], ◌∷◌, Some, None, Option, codes, ◌==◌}
 use Rattle.terms.specs.declared.kinds.Side.{Side}
 use Rattle.terms.specs.declared.kinds.Side.TheVariants.{Buy, Sell}
 use Rattle.terms.specs.declared.kinds.Kind.{Kind}
@@ -29,6 +29,10 @@ side_number Sell = 2
 
 abbrev pub side : ℕ → Option Side
 side = named side_number (Buy ∷ Sell ∷ [])
+
+abbrev pub side_word : Side → List ℕ
+side_word Buy = codes "buy"
+side_word Sell = codes "sell"
 
 abbrev pub kind_number : Kind → ℕ
 kind_number Order = 1

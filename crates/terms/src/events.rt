@@ -68,7 +68,7 @@ pub struct Effect {
 pub enum EnterAnswer {
     /// The entry rests.
     Accepted { effect: Effect },
-    /// A check turns it down, with a number from 41 to 59.
+    /// A check turns it down, with a number from 41 to 59: plain, as it stands in a history.
     TurnedDown { number: u8, effect: Effect },
     /// It is refused; where it is held, for these causes.
     Refused { refusal: Refusal, holds: Causes },
@@ -124,7 +124,7 @@ pub struct Struck {
     pub sell: Effect,
 }
 
-/// A call with its answer.
+/// A call with its answer. It repeats the fields of its call, since each call has a type of answer of its own.
 #[derive(Clone, Copy)]
 pub enum Event {
     Tick {

@@ -1,10 +1,11 @@
 //! The words that have few values, and how a plain number becomes one of them.
 
-ghost use Rattle.std.specs.Prelude.{◌≡◌};
+ghost use Rattle.std.specs.Prelude.{◌≡◌, Some};
 ghost use Rattle.terms.specs.Ranges.{ReadAs};
-ghost use Rattle.terms.specs.Kinds.{side, side_number, kind, kind_number, role, role_number, marks, marks_number, reach, reach_number, option_type, option_type_number, class, class_number, phase, phase_number, limit_kind, limit_kind_number, flag_of, flag_number};
+ghost use Rattle.terms.specs.Kinds.{side, side_number, side_word, kind, kind_number, role, role_number, marks, marks_number, reach, reach_number, option_type, option_type_number, class, class_number, phase, phase_number, limit_kind, limit_kind_number, flag_of, flag_number};
 
 use crate::refusal::Refusal;
+use std::fmt;
 
 #[derive(Clone, Copy, Debug, PartialEq, Eq)]
 pub enum Side {
@@ -93,6 +94,17 @@ impl From<Side> for u64 {
             Side::Buy => 1,
             Side::Sell => 2,
         }
+    }
+}
+
+impl fmt::Display for Side {
+    ghost output = { λ x. Some (side_word x) };
+
+    fn fmt<W: fmt::Write>(&self, f: &mut fmt::Formatter<W>) -> fmt::Result {
+        f.write_str(match *self {
+            Side::Buy => "buy",
+            Side::Sell => "sell",
+        })
     }
 }
 

@@ -90,7 +90,7 @@ pub enum Notice {
     },
 }
 
-/// What trips a login and its acronym: 0 is no trip.
+/// What trips a login and its acronym: 0 is no trip. Plain numbers, as they are answered and stand in a history; a check of one's own gives its own.
 #[derive(Clone, Copy, Debug, PartialEq, Eq)]
 pub struct Causes {
     pub login: u8,

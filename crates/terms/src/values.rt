@@ -53,7 +53,7 @@ pub struct Request {
     pub price: Price,
 }
 
-/// The fields of `Conditions` as plain numbers; a price that is absent is 0.
+/// The fields of `Conditions` as they are sent, in plain numbers; a price that is absent is 0.
 #[derive(Clone, Copy, Debug, PartialEq, Eq)]
 pub struct ConditionNumbers {
     pub class: u64,
@@ -99,6 +99,7 @@ impl TryFrom<ScopeNumber> for Scope {
 }
 
 impl BidOffer {
+    /// From two numbers, which have no type of their own that a `TryFrom` could take.
     #[tactic(auto, unfolding(crate::specs::Values::bid_offer))]
     pub fn from_numbers(bid: u64, offer: u64) -> Result<BidOffer, Refusal>
         ensures { result ≡ or_field (bid_offer bid offer) }

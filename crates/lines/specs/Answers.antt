@@ -48,6 +48,11 @@ answer_of (event.PutBack f r) = plainly r
 answer_of (event.Kill s reach block r) = amounting r
 answer_of (event.Release s r) = plainly r
 
+-- what is told of a call that was done, and a refusal of one that was not
+abbrev pub or_refused : Result Answer Refusal → Answer
+or_refused (Ok a) = a
+or_refused (Err e) = Refused e
+
 -- ---- its text
 
 -- numbers in decimal, with single spaces

@@ -1,5 +1,5 @@
 -- The names of calls' fields, and the message of a fault. Assumes nothing.
-use Rattle.std.specs.Prelude.{ℕ, ◌-◌, cond, List, [], ◌∷◌, ◌++◌, codes, decimal, ◌==◌, slice_index_or}
+use Rattle.std.specs.Prelude.{ℕ, ◌-◌, cond, List, [], ◌∷◌, ◌++◌, map, codes, decimal, ◌==◌, slice_index_or}
 use Rattle.std.specs.Borrow.{Bor}
 use Rattle.script.specs.declared.fields.Fault.{Fault}
 use Rattle.script.specs.declared.fields.Fault.TheVariants as script
@@ -31,8 +31,7 @@ field_names Kill = codes "N" ∷ codes "REACH" ∷ codes "BLOCK" ∷ []
 field_names Release = codes "N" ∷ []
 
 abbrev pub texts : List (Bor (List ℕ)) → List (List ℕ)
-texts [] = []
-texts (t ∷ ts) = t.now ∷ texts ts
+texts ts = map (λ t. t.now) ts
 
 abbrev pub name_at : List (List ℕ) → ℕ → List ℕ
 name_at names k = slice_index_or names k (codes "a field")

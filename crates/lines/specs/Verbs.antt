@@ -1,5 +1,6 @@
 -- The words that calls begin with, and those of scopes. Assumes nothing.
-use Rattle.std.specs.Prelude.{◌≡◌, ℕ, cond, List, [], ◌∷◌, Some, None, codes, Option, ◌≢◌}
+use Rattle.std.specs.Prelude.{◌≡◌, ℕ, List, [], ◌∷◌, Some, None, codes, Option, ◌≢◌}
+use Rattle.std.specs.List.{find}
 use Rattle.std.specs.Str.{bytes_eq}
 use Rattle.terms.specs.declared.messages.ScopeNumber.{ScopeNumber}
 use Rattle.terms.specs.declared.messages.ScopeNumber.TheVariants as scope
@@ -10,8 +11,7 @@ use Rattle.lines.specs.declared.verbs.ScopeWord.TheVariants.{Login, Acronym}
 
 -- the one of some values whose word it is
 abbrev pub worded : {X : Type 0} → (X → List ℕ) → List X → List ℕ → Option X
-worded word [] w = None
-worded word (x ∷ xs) w = cond (bytes_eq w (word x)) (Some x) (worded word xs w)
+worded word xs w = find (λ x. bytes_eq w (word x)) xs
 
 -- ---- calls
 

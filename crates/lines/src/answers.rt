@@ -1,7 +1,7 @@
 //! What a gate answers, as it is printed.
 
 ghost use Rattle.std.specs.Prelude.{◌≡◌, ◌++◌, Some};
-ghost use Rattle.lines.specs.Answers.{effect_text, trade_text, fill_text, bracketed, refusal_of, text, plainly, amounting, striking, taking, answer_of};
+ghost use Rattle.lines.specs.Answers.{effect_text, trade_text, fill_text, bracketed, refusal_of, text, or_refused, answer_of};
 
 use std::fmt;
 use terms::{Effect, EnterAnswer, Event, Fill, Refusal, Struck, Trade};
@@ -150,47 +150,10 @@ impl fmt::Display for Answer {
     }
 }
 
-fn plain(answer: Result<(), Refusal>) -> Answer
-    ensures { result ≡ plainly answer }
-{
-    match answer {
-        Ok(()) => Answer::Done,
-        Err(refusal) => Answer::Refused { refusal },
-    }
-}
-
-fn amount(answer: Result<u32, Refusal>) -> Answer
-    ensures { result ≡ amounting answer }
-{
-    match answer {
-        Ok(contracts) => Answer::Cancelled { contracts },
-        Err(refusal) => Answer::Refused { refusal },
-    }
-}
-
-fn struck(answer: Result<Option<Struck>, Refusal>) -> Answer
-    ensures { result ≡ striking answer }
-{
-    match answer {
-        Ok(None) => Answer::NoTrade,
-        Ok(Some(struck)) => Answer::Traded { struck },
-        Err(refusal) => Answer::Refused { refusal },
-    }
-}
-
-fn taken(answer: Result<Fill, Refusal>) -> Answer
-    ensures { result ≡ taking answer }
-{
-    match answer {
-        Ok(fill) => Answer::Slip { fill },
-        Err(refusal) => Answer::Refused { refusal },
-    }
-}
-
 impl Answer {
-    /// What an event answers.
-    pub fn of(event: &Event) -> Answer
-        ensures { result ≡ answer_of event.now }
+    /// What is told of a call that was done, or why it was refused.
+    fn told(event: &Event) -> Result<Answer, Refusal>
+        ensures { or_refused result ≡ answer_of event.now }
     {
         match *event {
             Event::Tick { answer, .. }
@@ -199,13 +162,26 @@ impl Answer {
             | Event::Limit { answer, .. }
             | Event::Receipt { answer, .. }
             | Event::PutBack { answer, .. }
-            | Event::Release { answer, .. } => plain(answer),
+            | Event::Release { answer, .. } => {
+                answer?;
+                Ok(Answer::Done)
+            }
             Event::Retire { answer, .. }
             | Event::Cancel { answer, .. }
-            | Event::Kill { answer, .. } => amount(answer),
-            Event::Enter { answer, .. } => Answer::Entered { answer },
-            Event::Strike { answer } => struck(answer),
-            Event::Take { answer, .. } => taken(answer),
+            | Event::Kill { answer, .. } => Ok(Answer::Cancelled { contracts: answer? }),
+            Event::Enter { answer, .. } => Ok(Answer::Entered { answer }),
+            Event::Strike { answer } => match answer? {
+                None => Ok(Answer::NoTrade),
+                Some(struck) => Ok(Answer::Traded { struck }),
+            },
+            Event::Take { answer, .. } => Ok(Answer::Slip { fill: answer? }),
         }
+    }
+
+    /// What an event answers.
+    pub fn of(event: &Event) -> Answer
+        ensures { result ≡ answer_of event.now }
+    {
+        Answer::told(event).unwrap_or_else(|refusal| Answer::Refused { refusal })
     }
 }

@@ -3,12 +3,12 @@
 ghost use Rattle.std.specs.Prelude.{◌≡◌, drop};
 ghost use Rattle.script.specs.Numbers.{numbers_in};
 ghost use Rattle.script.specs.Words.{words, remaining};
-ghost use Rattle.lines.specs.Calls.{values_in, ticket_in, fill_in, limit_in, in_call, limit_numbers, scope_first, or_scope, call_in, line_in, at_line};
+ghost use Rattle.lines.specs.Calls.{values_in, ticket_in, fill_in, in_call, limit_numbers, scope_first, or_scope, call_in, line_in, at_line};
 ghost use Rattle.lines.specs.Spelling.{LineTold, ReadsBack};
 ghost use Rattle.lines.specs.declared.verbs.Verb.TheVariants as named;
 
 use crate::faults::{CallFault, FieldFault, LineFault};
-use crate::verbs::{ScopeWord, Verb, scope_named, verb_named};
+use crate::verbs::{ScopeWord, Verb};
 use script::{Reader, numbers};
 use terms::{Call, ConditionNumbers, Fill, LimitNumbers, Ticket, ValueNumbers};
 
@@ -72,10 +72,7 @@ fn fill_in(n: &[u64; 5]) -> Fill
 fn fields<const N: usize>(verb: Verb, reader: &mut Reader) -> Result<[u64; N], FieldFault>
     ensures { result ≡ in_call verb (numbers_in N 0 (remaining reader.old)) }
 {
-    match numbers::<N>(reader) {
-        Ok(fields) => Ok(fields),
-        Err(fault) => Err(FieldFault::Number { verb, fault }),
-    }
+    numbers(reader).map_err(|fault| FieldFault::Number { verb, fault })
 }
 
 /// The word of a scope.
@@ -83,166 +80,107 @@ fn scope_word(verb: Verb, reader: &mut Reader) -> Result<ScopeWord, FieldFault>
     ensures value { result ≡ or_scope verb (scope_first (remaining reader.old)) }
     ensures rest { remaining reader.new ≡ drop 1 (remaining reader.old) }
 {
-    let Some(word) = reader.next_word() else {
-        return Err(FieldFault::Scope { verb });
-    };
-    match scope_named(word) {
-        Some(scope) => Ok(scope),
-        None => Err(FieldFault::Scope { verb }),
-    }
-}
-
-fn tick(reader: &mut Reader) -> Result<Call, FieldFault>
-    ensures { result ≡ call_in named.Tick (remaining reader.old) }
-{
-    let n = fields::<1>(Verb::Tick, reader)?;
-    Ok(Call::Tick { time: n[0] })
-}
-
-fn values(reader: &mut Reader) -> Result<Call, FieldFault>
-    ensures { result ≡ call_in named.Values (remaining reader.old) }
-{
-    let n = fields::<12>(Verb::Values, reader)?;
-    Ok(Call::Values {
-        series: n[0],
-        values: values_in(&n),
-    })
-}
-
-fn open(reader: &mut Reader) -> Result<Call, FieldFault>
-    ensures { result ≡ call_in named.Open (remaining reader.old) }
-{
-    let n = fields::<4>(Verb::Open, reader)?;
-    Ok(Call::Open {
-        login: n[0],
-        acronym: n[1],
-        role: n[2],
-        reach: n[3],
-    })
-}
-
-fn retire(reader: &mut Reader) -> Result<Call, FieldFault>
-    ensures { result ≡ call_in named.Retire (remaining reader.old) }
-{
-    let n = fields::<1>(Verb::Retire, reader)?;
-    Ok(Call::Retire { login: n[0] })
+    reader
+        .next()
+        .and_then(ScopeWord::named)
+        .ok_or(FieldFault::Scope { verb })
 }
 
 /// The numbers of a limit. The interval of one of kind 4 may be left out.
 fn limit_numbers(reader: &mut Reader) -> Result<[u64; 4], FieldFault>
     ensures { result ≡ in_call named.Limit (limit_numbers (remaining reader.old)) }
 {
-    let mut short = *reader;
-    if let Ok(n) = numbers::<3>(&mut short) {
-        if n[1] == SIZE {
-            return Ok([n[0], n[1], n[2], 0]);
-        }
+    let mut ahead = *reader;
+    match numbers::<3>(&mut ahead) {
+        Ok(n) if n[1] == SIZE => Ok([n[0], n[1], n[2], 0]),
+        _ => fields(Verb::Limit, reader),
     }
-    fields::<4>(Verb::Limit, reader)
 }
 
-fn limit(reader: &mut Reader) -> Result<Call, FieldFault>
-    ensures { result ≡ call_in named.Limit (remaining reader.old) }
-{
-    let scope = scope_word(Verb::Limit, reader)?;
-    let n = limit_numbers(reader)?;
-    Ok(Call::Limit {
-        limit: LimitNumbers {
-            scope: scope.of(n[0]),
-            kind: n[1],
-            limit: n[2],
-            interval: n[3],
-        },
-    })
-}
-
-fn enter(reader: &mut Reader) -> Result<Call, FieldFault>
-    ensures { result ≡ call_in named.Enter (remaining reader.old) }
-{
-    let n = fields::<8>(Verb::Enter, reader)?;
-    Ok(Call::Enter {
-        ticket: ticket_in(&n),
-    })
-}
-
-fn cancel(reader: &mut Reader) -> Result<Call, FieldFault>
-    ensures { result ≡ call_in named.Cancel (remaining reader.old) }
-{
-    let n = fields::<2>(Verb::Cancel, reader)?;
-    Ok(Call::Cancel {
-        login: n[0],
-        number: n[1],
-    })
-}
-
-fn strike(reader: &mut Reader) -> Result<Call, FieldFault>
-    ensures { result ≡ call_in named.Strike (remaining reader.old) }
-{
-    let _none = fields::<0>(Verb::Strike, reader)?;
-    Ok(Call::Strike)
-}
-
-fn take(reader: &mut Reader) -> Result<Call, FieldFault>
-    ensures { result ≡ call_in named.Take (remaining reader.old) }
-{
-    let n = fields::<1>(Verb::Take, reader)?;
-    Ok(Call::Take { login: n[0] })
-}
-
-fn receipt(reader: &mut Reader) -> Result<Call, FieldFault>
-    ensures { result ≡ call_in named.Receipt (remaining reader.old) }
-{
-    let n = fields::<5>(Verb::Receipt, reader)?;
-    Ok(Call::Receipt { fill: fill_in(&n) })
-}
-
-fn put_back(reader: &mut Reader) -> Result<Call, FieldFault>
-    ensures { result ≡ call_in named.PutBack (remaining reader.old) }
-{
-    let n = fields::<5>(Verb::PutBack, reader)?;
-    Ok(Call::PutBack { fill: fill_in(&n) })
-}
-
-fn kill(reader: &mut Reader) -> Result<Call, FieldFault>
-    ensures { result ≡ call_in named.Kill (remaining reader.old) }
-{
-    let scope = scope_word(Verb::Kill, reader)?;
-    let n = fields::<3>(Verb::Kill, reader)?;
-    Ok(Call::Kill {
-        scope: scope.of(n[0]),
-        reach: n[1],
-        block: n[2],
-    })
-}
-
-fn release(reader: &mut Reader) -> Result<Call, FieldFault>
-    ensures { result ≡ call_in named.Release (remaining reader.old) }
-{
-    let scope = scope_word(Verb::Release, reader)?;
-    let n = fields::<1>(Verb::Release, reader)?;
-    Ok(Call::Release {
-        scope: scope.of(n[0]),
-    })
-}
-
+/// The call of each word, from the words that follow it.
 fn call_of(verb: Verb, reader: &mut Reader) -> Result<Call, FieldFault>
     ensures { result ≡ call_in verb (remaining reader.old) }
 {
-    match verb {
-        Verb::Tick => tick(reader),
-        Verb::Values => values(reader),
-        Verb::Open => open(reader),
-        Verb::Retire => retire(reader),
-        Verb::Limit => limit(reader),
-        Verb::Enter => enter(reader),
-        Verb::Cancel => cancel(reader),
-        Verb::Strike => strike(reader),
-        Verb::Take => take(reader),
-        Verb::Receipt => receipt(reader),
-        Verb::PutBack => put_back(reader),
-        Verb::Kill => kill(reader),
-        Verb::Release => release(reader),
-    }
+    let call = match verb {
+        Verb::Tick => {
+            let [time] = fields::<1>(verb, reader)?;
+            Call::Tick { time }
+        }
+        Verb::Values => {
+            let n = fields::<12>(verb, reader)?;
+            Call::Values {
+                series: n[0],
+                values: values_in(&n),
+            }
+        }
+        Verb::Open => {
+            let [login, acronym, role, reach] = fields::<4>(verb, reader)?;
+            Call::Open {
+                login,
+                acronym,
+                role,
+                reach,
+            }
+        }
+        Verb::Retire => {
+            let [login] = fields::<1>(verb, reader)?;
+            Call::Retire { login }
+        }
+        Verb::Limit => {
+            let scope = scope_word(verb, reader)?;
+            let [n, kind, limit, interval] = limit_numbers(reader)?;
+            let scope = scope.of(n);
+            Call::Limit {
+                limit: LimitNumbers {
+                    scope,
+                    kind,
+                    limit,
+                    interval,
+                },
+            }
+        }
+        Verb::Enter => {
+            let n = fields::<8>(verb, reader)?;
+            Call::Enter {
+                ticket: ticket_in(&n),
+            }
+        }
+        Verb::Cancel => {
+            let [login, number] = fields::<2>(verb, reader)?;
+            Call::Cancel { login, number }
+        }
+        Verb::Strike => {
+            let [] = fields::<0>(verb, reader)?;
+            Call::Strike
+        }
+        Verb::Take => {
+            let [login] = fields::<1>(verb, reader)?;
+            Call::Take { login }
+        }
+        Verb::Receipt => {
+            let n = fields::<5>(verb, reader)?;
+            Call::Receipt { fill: fill_in(&n) }
+        }
+        Verb::PutBack => {
+            let n = fields::<5>(verb, reader)?;
+            Call::PutBack { fill: fill_in(&n) }
+        }
+        Verb::Kill => {
+            let scope = scope_word(verb, reader)?;
+            let [n, reach, block] = fields::<3>(verb, reader)?;
+            Call::Kill {
+                scope: scope.of(n),
+                reach,
+                block,
+            }
+        }
+        Verb::Release => {
+            let scope = scope_word(verb, reader)?;
+            let [n] = fields::<1>(verb, reader)?;
+            Call::Release { scope: scope.of(n) }
+        }
+    };
+    Ok(call)
 }
 
 /// The first word says which call it is, and what follows are its fields.
@@ -250,14 +188,11 @@ fn by_first_word(line: &[u8]) -> Result<Option<Call>, CallFault>
     ensures { result ≡ line_in (words line.now) }
 {
     let mut reader = Reader::new(line);
-    let Some(word) = reader.next_word() else {
+    let Some(word) = reader.next() else {
         return Ok(None);
     };
-    let Some(verb) = verb_named(word) else {
-        return Err(CallFault::Unknown);
-    };
-    let call = call_of(verb, &mut reader)?;
-    Ok(Some(call))
+    let verb = Verb::named(word).ok_or(CallFault::Unknown)?;
+    Ok(Some(call_of(verb, &mut reader)?))
 }
 
 /// The call of a line, or none where the line has no word.
@@ -273,11 +208,8 @@ pub fn read_call(line: &[u8]) -> Result<Option<Call>, CallFault>
 pub fn read_line(number: u64, line: &[u8]) -> Result<Option<Call>, LineFault>
     ensures { result ≡ at_line number (line_in (words line.now)) }
 {
-    match read_call(line) {
-        Ok(call) => Ok(call),
-        Err(fault) => Err(LineFault {
-            line: number,
-            fault,
-        }),
-    }
+    read_call(line).map_err(|fault| LineFault {
+        line: number,
+        fault,
+    })
 }

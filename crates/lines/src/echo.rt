@@ -1,6 +1,6 @@
 //! A line's words as they were read, with single spaces, and the line that answers it.
 
-ghost use Rattle.std.specs.Prelude.{◌≡◌, Some};
+ghost use Rattle.std.specs.Prelude.{◌≡◌, Some, IfOk};
 ghost use Rattle.std.specs.Fmt.{WritesOnOk};
 ghost use Rattle.script.specs.Words.{words, remaining};
 ghost use Rattle.lines.specs.Answers.{answered};
@@ -16,15 +16,19 @@ pub struct Echo<'a> {
     pub line: &'a [u8],
 }
 
-/// Writes what a reader has still to give, a space before each word.
-fn trail<W: fmt::Write>(reader: &mut Reader, f: &mut fmt::Formatter<W>) -> fmt::Result
-    ensures { WritesOnOk W.Write.write_str_gives f.old result (trailed (remaining reader.old)) f.new }
+/// The text of a word.
+fn text_of(word: &[u8]) -> Result<&str, fmt::Error>
+    ensures { IfOk result (λ text. text.now ≡ word.now) }
 {
-    while let Some(word) = reader.next_word() {
-        let Ok(text) = str::from_utf8(word) else {
-            return Err(fmt::Error);
-        };
-        write!(f, " {text}")?;
+    str::from_utf8(word).map_err(|_| fmt::Error)
+}
+
+/// Writes the words that a reader has still to give, a space before each.
+fn trail<W: fmt::Write>(reader: Reader, f: &mut fmt::Formatter<W>) -> fmt::Result
+    ensures { WritesOnOk W.Write.write_str_gives f.old result (trailed (remaining reader.entry)) f.new }
+{
+    for word in reader {
+        write!(f, " {}", text_of(word)?)?;
     }
     Ok(())
 }
@@ -34,14 +38,11 @@ impl fmt::Display for Echo<'_> {
 
     fn fmt<W: fmt::Write>(&self, f: &mut fmt::Formatter<W>) -> fmt::Result {
         let mut reader = Reader::new(self.line);
-        let Some(word) = reader.next_word() else {
+        let Some(word) = reader.next() else {
             return Ok(());
         };
-        let Ok(text) = str::from_utf8(word) else {
-            return Err(fmt::Error);
-        };
-        write!(f, "{text}")?;
-        trail(&mut reader, f)
+        f.write_str(text_of(word)?)?;
+        trail(reader, f)
     }
 }
 

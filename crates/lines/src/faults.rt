@@ -6,7 +6,7 @@ ghost use Rattle.lines.specs.declared.faults.CallFault.TheVariants.{Field};
 use crate::verbs::Verb;
 
 /// What is wrong with the fields of a call.
-#[derive(Clone, Copy)]
+#[derive(Clone, Copy, Debug, PartialEq, Eq)]
 pub enum FieldFault {
     /// The word of a scope, `login` or `acronym`, was expected first.
     Scope { verb: Verb },
@@ -15,7 +15,7 @@ pub enum FieldFault {
 }
 
 /// Why a line is no call.
-#[derive(Clone, Copy)]
+#[derive(Clone, Copy, Debug, PartialEq, Eq)]
 pub enum CallFault {
     Unknown,
     Field { fault: FieldFault },
@@ -30,7 +30,7 @@ impl From<FieldFault> for CallFault {
 }
 
 /// The line, counted from 1, that is no call.
-#[derive(Clone, Copy)]
+#[derive(Clone, Copy, Debug, PartialEq, Eq)]
 pub struct LineFault {
     pub line: u64,
     pub fault: CallFault,

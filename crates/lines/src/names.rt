@@ -2,33 +2,12 @@
 
 ghost use Rattle.std.specs.Prelude.{◌≡◌, Some};
 ghost use Rattle.lines.specs.Verbs.{word_of};
-ghost use Rattle.lines.specs.Names.{field_names, name_at, name_before, texts, number_message, field_message, message, line_message};
+ghost use Rattle.lines.specs.Names.{field_names, name_at, name_before, texts, field_message, message, line_message};
 
 use crate::faults::{CallFault, FieldFault, LineFault};
 use crate::verbs::Verb;
 use script::Fault;
 use std::fmt;
-
-/// The word of a call.
-fn verb_word(verb: Verb) -> &'static str
-    ensures { result.now ≡ word_of verb }
-{
-    match verb {
-        Verb::Tick => "tick",
-        Verb::Values => "values",
-        Verb::Open => "open",
-        Verb::Retire => "retire",
-        Verb::Limit => "limit",
-        Verb::Enter => "enter",
-        Verb::Cancel => "cancel",
-        Verb::Strike => "strike",
-        Verb::Take => "take",
-        Verb::Receipt => "receipt",
-        Verb::PutBack => "putback",
-        Verb::Kill => "kill",
-        Verb::Release => "release",
-    }
-}
 
 /// The names of a call's numbers, in their order.
 fn field_names(verb: Verb) -> &'static [&'static str]
@@ -77,11 +56,7 @@ fn field_names(verb: Verb) -> &'static [&'static str]
 fn field_name(verb: Verb, field: usize) -> &'static str
     ensures { result.now ≡ name_at (field_names verb) field }
 {
-    let names = field_names(verb);
-    if field < names.len() {
-        return names[field];
-    }
-    "a field"
+    field_names(verb).get(field).copied().unwrap_or("a field")
 }
 
 /// What stands before a call's number: the number before it, or the call's word.
@@ -89,37 +64,9 @@ fn name_before(verb: Verb, field: usize) -> &'static str
     ensures { result.now ≡ name_before verb field }
 {
     if field == 0 {
-        return verb_word(verb);
+        return verb.word();
     }
     field_name(verb, field - 1)
-}
-
-/// What is wrong with the numbers of a call.
-#[derive(Clone, Copy)]
-struct InNumbers {
-    verb: Verb,
-    fault: Fault,
-}
-
-impl fmt::Display for InNumbers {
-    ghost output = { λ x. Some (number_message x.verb x.fault) };
-
-    fn fmt<W: fmt::Write>(&self, f: &mut fmt::Formatter<W>) -> fmt::Result {
-        let verb = self.verb;
-        match self.fault {
-            Fault::Missing { field } => {
-                write!(f, "expected {}, and the line ends", field_name(verb, field))
-            }
-            Fault::NotNumber { field } => {
-                write!(f, "expected {}, a number", field_name(verb, field))
-            }
-            Fault::Extra { field } => write!(
-                f,
-                "expected the end of the line after {}",
-                name_before(verb, field)
-            ),
-        }
-    }
 }
 
 impl fmt::Display for FieldFault {
@@ -128,9 +75,24 @@ impl fmt::Display for FieldFault {
     fn fmt<W: fmt::Write>(&self, f: &mut fmt::Formatter<W>) -> fmt::Result {
         match *self {
             FieldFault::Scope { verb } => {
-                write!(f, "expected login or acronym after {}", verb_word(verb))
+                write!(f, "expected login or acronym after {}", verb.word())
             }
-            FieldFault::Number { verb, fault } => write!(f, "{}", InNumbers { verb, fault }),
+            FieldFault::Number {
+                verb,
+                fault: Fault::Missing { field },
+            } => write!(f, "expected {}, and the line ends", field_name(verb, field)),
+            FieldFault::Number {
+                verb,
+                fault: Fault::NotNumber { field },
+            } => write!(f, "expected {}, a number", field_name(verb, field)),
+            FieldFault::Number {
+                verb,
+                fault: Fault::Extra { field },
+            } => write!(
+                f,
+                "expected the end of the line after {}",
+                name_before(verb, field)
+            ),
         }
     }
 }

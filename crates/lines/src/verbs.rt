@@ -1,13 +1,12 @@
 //! The words that calls begin with, and those of scopes.
 
 ghost use Rattle.std.specs.Prelude.{◌≡◌};
-ghost use Rattle.std.specs.Str.{bytes_eq};
-ghost use Rattle.lines.specs.Verbs.{verb_of, scope_of, scoped};
+ghost use Rattle.lines.specs.Verbs.{word_of, verb_of, scope_word, scope_of, scoped};
 
 use terms::ScopeNumber;
 
 /// Which call a line asks for.
-#[derive(Clone, Copy)]
+#[derive(Clone, Copy, Debug, PartialEq, Eq)]
 pub enum Verb {
     Tick,
     Values,
@@ -24,80 +23,84 @@ pub enum Verb {
     Release,
 }
 
-/// Whether a word is this one.
-fn same(word: &[u8], name: &str) -> bool
-    ensures { result ≡ bytes_eq word.now name.now }
-{
-    word == name.as_bytes()
-}
+impl Verb {
+    const ALL: [Verb; 13] = [
+        Verb::Tick,
+        Verb::Values,
+        Verb::Open,
+        Verb::Retire,
+        Verb::Limit,
+        Verb::Enter,
+        Verb::Cancel,
+        Verb::Strike,
+        Verb::Take,
+        Verb::Receipt,
+        Verb::PutBack,
+        Verb::Kill,
+        Verb::Release,
+    ];
 
-/// The call that a word names.
-pub(crate) fn verb_named(word: &[u8]) -> Option<Verb>
-    ensures { result ≡ verb_of word.now }
-{
-    if same(word, "tick") {
-        return Some(Verb::Tick);
+    /// The word of a call.
+    pub(crate) fn word(self) -> &'static str
+        ensures { result.now ≡ word_of self }
+    {
+        match self {
+            Verb::Tick => "tick",
+            Verb::Values => "values",
+            Verb::Open => "open",
+            Verb::Retire => "retire",
+            Verb::Limit => "limit",
+            Verb::Enter => "enter",
+            Verb::Cancel => "cancel",
+            Verb::Strike => "strike",
+            Verb::Take => "take",
+            Verb::Receipt => "receipt",
+            Verb::PutBack => "putback",
+            Verb::Kill => "kill",
+            Verb::Release => "release",
+        }
     }
-    if same(word, "values") {
-        return Some(Verb::Values);
+
+    /// The call that a word names, if it is one's.
+    pub(crate) fn named(word: &[u8]) -> Option<Verb>
+        ensures { result ≡ verb_of word.now }
+    {
+        Verb::ALL
+            .iter()
+            .copied()
+            .find(|verb| word == verb.word().as_bytes())
     }
-    if same(word, "open") {
-        return Some(Verb::Open);
-    }
-    if same(word, "retire") {
-        return Some(Verb::Retire);
-    }
-    if same(word, "limit") {
-        return Some(Verb::Limit);
-    }
-    if same(word, "enter") {
-        return Some(Verb::Enter);
-    }
-    if same(word, "cancel") {
-        return Some(Verb::Cancel);
-    }
-    if same(word, "strike") {
-        return Some(Verb::Strike);
-    }
-    if same(word, "take") {
-        return Some(Verb::Take);
-    }
-    if same(word, "receipt") {
-        return Some(Verb::Receipt);
-    }
-    if same(word, "putback") {
-        return Some(Verb::PutBack);
-    }
-    if same(word, "kill") {
-        return Some(Verb::Kill);
-    }
-    if same(word, "release") {
-        return Some(Verb::Release);
-    }
-    None
 }
 
 /// Whether a number names a login or an acronym.
-#[derive(Clone, Copy)]
+#[derive(Clone, Copy, Debug, PartialEq, Eq)]
 pub(crate) enum ScopeWord {
     Login,
     Acronym,
 }
 
-/// The scope that a word names.
-pub(crate) fn scope_named(word: &[u8]) -> Option<ScopeWord>
-    ensures { result ≡ scope_of word.now }
-{
-    if same(word, "login") {
-        return Some(ScopeWord::Login);
-    }
-    if same(word, "acronym") {
-        return Some(ScopeWord::Acronym);
-    }
-    None
-}
-
 impl ScopeWord {
+    const ALL: [ScopeWord; 2] = [ScopeWord::Login, ScopeWord::Acronym];
+
+    fn word(self) -> &'static str
+        ensures { result.now ≡ scope_word self }
+    {
+        match self {
+            ScopeWord::Login => "login",
+            ScopeWord::Acronym => "acronym",
+        }
+    }
+
+    /// The scope that a word names, if it is one's.
+    pub(crate) fn named(word: &[u8]) -> Option<ScopeWord>
+        ensures { result ≡ scope_of word.now }
+    {
+        ScopeWord::ALL
+            .iter()
+            .copied()
+            .find(|scope| word == scope.word().as_bytes())
+    }
+
     /// The login or the acronym of a number.
     pub(crate) fn of(self, number: u64) -> ScopeNumber
         ensures { result ≡ scoped self number }

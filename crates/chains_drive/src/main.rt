@@ -4,52 +4,38 @@
 
 mod drive;
 mod mirror;
+mod operation;
 mod random;
 mod records;
 
 use chains::Slot;
-use drive::{Tally, drive, name};
-use records::{Large, Small};
-use std::alloc::{AllocError, Global};
+use drive::{Tally, drive};
+use operation::Operation;
+use records::{Large, Record, Small};
 use std::io;
 
 const TURNS: u32 = 6000;
 
-fn small(heap: Global) -> Result<Tally, AllocError> {
-    let mut table = [Slot {
+/// A slot of a new table.
+fn blank<T: Record>() -> Slot<T> {
+    Slot {
         next: 0,
-        item: Small { kind: 0, size: 0 },
-    }; 10];
-    drive(heap, &mut table, 1, TURNS)
-}
-
-fn large(heap: Global) -> Result<Tally, AllocError> {
-    let mut table = [Slot {
-        next: 0,
-        item: Large {
-            serial: 0,
-            size: 0,
-            kind: 0,
-        },
-    }; 33];
-    drive(heap, &mut table, 2, TURNS)
-}
-
-fn no_table(heap: Global) -> Result<Tally, AllocError> {
-    let mut table: [Slot<Small>; 0] = [];
-    drive(heap, &mut table, 3, 300)
+        item: T::new(0, 0, 0),
+    }
 }
 
 fn report(rt: &HostRuntime, title: &str, tally: &Tally) -> io::Result<()> {
     println!(rt; "{title}")?;
-    for (op, n) in tally.counts.iter().enumerate() {
-        let what = name(op);
-        println!(rt; "  {what} {n}")?;
+    for (operation, n) in Operation::ALL.iter().zip(&tally.counts) {
+        println!(rt; "  {operation} {n}")?;
     }
-    let refused = tally.refused;
+    let Tally {
+        refused,
+        held,
+        filled,
+        ..
+    } = tally;
     println!(rt; "  refused for want of room {refused}")?;
-    let held = tally.held;
-    let filled = tally.filled;
     println!(rt; "  held at the end {held}, room for {filled} more")?;
     match tally.differ {
         0 => println!(rt; "  all answers equal"),
@@ -59,7 +45,22 @@ fn report(rt: &HostRuntime, title: &str, tally: &Tally) -> io::Result<()> {
 
 fn main(rt: HostRuntime) -> io::Result<()> {
     let heap = rt.alloc();
-    report(&rt, "small records, 9 places", &small(heap)?)?;
-    report(&rt, "large records, 32 places", &large(heap)?)?;
-    report(&rt, "an empty table, no places", &no_table(heap)?)
+    let mut small = [blank::<Small>(); 10];
+    let mut large = [blank::<Large>(); 33];
+    let mut none = [blank::<Small>(); 0];
+    report(
+        &rt,
+        "small records, 9 places",
+        &drive(heap, &mut small, 1, TURNS)?,
+    )?;
+    report(
+        &rt,
+        "large records, 32 places",
+        &drive(heap, &mut large, 2, TURNS)?,
+    )?;
+    report(
+        &rt,
+        "an empty table, no places",
+        &drive(heap, &mut none, 3, 300)?,
+    )
 }

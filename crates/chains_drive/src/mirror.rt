@@ -1,7 +1,11 @@
 //! The same chains as a plain Vec: every item with its chain, in the order of appending.
+//! It promises nothing: what it answers is compared with what the chains answer.
+
+ghost use Rattle.std.specs.Prelude.{◌<◌, length, IfSome};
 
 use crate::records::Record;
 use std::alloc::{AllocError, Global};
+use std::mem;
 
 #[derive(Clone, Copy)]
 pub struct Entry<T> {
@@ -9,103 +13,107 @@ pub struct Entry<T> {
     pub item: T,
 }
 
-/// Whether an entry is in the chain and, unless that is None, of the kind.
-fn is<T: Copy + Record>(entry: &Entry<T>, chain: usize, kind: Option<u8>) -> bool {
-    entry.chain == chain
-        && match kind {
-            Some(kind) => entry.item.kind() == kind,
-            None => true,
-        }
-}
-
-pub fn first<T: Copy + Record>(entries: &[Entry<T>], chain: usize, kind: Option<u8>) -> Option<T> {
-    for entry in entries {
-        if is(entry, chain, kind) {
-            return Some(entry.item);
-        }
-    }
-    None
-}
-
-pub fn count<T: Copy + Record>(entries: &[Entry<T>], chain: usize, kind: Option<u8>) -> usize {
-    let mut n: usize = 0;
-    for entry in entries {
-        if is(entry, chain, kind) {
-            n = n.wrapping_add(1);
-        }
-    }
-    n
-}
-
-pub fn sum<T: Copy + Record>(entries: &[Entry<T>], chain: usize, kind: Option<u8>) -> u64 {
-    let mut sum: u64 = 0;
-    for entry in entries {
-        if is(entry, chain, kind) {
-            sum = sum.wrapping_add(u64::from(entry.item.size()));
-        }
-    }
-    sum
-}
-
-/// Of the largest so far and the next item, the next one only if it is larger.
-fn larger<T: Copy + Record>(best: Option<T>, next: T) -> Option<T> {
-    match best {
-        Some(old) if old.size() >= next.size() => Some(old),
-        _ => Some(next),
-    }
-}
-
-pub fn largest<T: Copy + Record>(
-    entries: &[Entry<T>],
+/// The items of a chain, or those of one kind.
+#[derive(Clone, Copy)]
+pub struct Choice {
     chain: usize,
     kind: Option<u8>,
-) -> Option<T> {
-    let mut best = None;
-    for entry in entries {
-        if is(entry, chain, kind) {
-            best = larger(best, entry.item);
-        }
-    }
-    best
 }
 
-/// The entries but those in the chain and of the kind: the first of them, or all.
-pub fn without<T: Copy + Record>(
-    heap: Global,
-    entries: &[Entry<T>],
-    chain: usize,
-    kind: Option<u8>,
-    all: bool,
-) -> Result<Vec<Entry<T>>, AllocError> {
-    let mut rest = Vec::new(heap);
-    let mut taken = false;
-    for entry in entries {
-        if is(entry, chain, kind) && (all || !taken) {
-            taken = true;
-        } else {
-            rest.push(*entry)?;
+impl Choice {
+    pub fn all(chain: usize) -> Choice {
+        Choice { chain, kind: None }
+    }
+
+    pub fn of_kind(chain: usize, kind: u8) -> Choice {
+        Choice {
+            chain,
+            kind: Some(kind),
         }
     }
-    Ok(rest)
+
+    pub fn has<T: Record>(&self, entry: &Entry<T>) -> bool {
+        entry.chain == self.chain && self.kind.is_none_or(|kind| entry.item.kind() == kind)
+    }
 }
 
-/// The entries with `item` in the place of the first in the chain and of the kind.
-pub fn replaced<T: Copy + Record>(
-    heap: Global,
-    entries: &[Entry<T>],
-    chain: usize,
-    kind: Option<u8>,
-    item: T,
-) -> Result<Vec<Entry<T>>, AllocError> {
-    let mut after = Vec::new(heap);
-    let mut done = false;
-    for entry in entries {
-        if is(entry, chain, kind) && !done {
-            done = true;
-            after.push(Entry { chain, item })?;
-        } else {
-            after.push(*entry)?;
+#[derive(Drop)]
+pub struct Mirror<T> {
+    pub entries: Vec<Entry<T>>,
+}
+
+// questions
+impl<T: Record> Mirror<T> {
+    pub fn new(heap: Global) -> Mirror<T> {
+        Mirror {
+            entries: Vec::new(heap),
         }
     }
-    Ok(after)
+
+    pub fn len(&self) -> usize {
+        self.entries.len()
+    }
+
+    pub fn first(&self, choice: Choice) -> Option<T> {
+        self.entries
+            .iter()
+            .find(|entry| choice.has(*entry))
+            .map(|entry| entry.item)
+    }
+
+    pub fn count(&self, choice: Choice) -> usize {
+        self.entries
+            .iter()
+            .filter(|entry| choice.has(*entry))
+            .count()
+    }
+
+    pub fn sum(&self, choice: Choice) -> u64 {
+        self.entries.iter().filter(|entry| choice.has(*entry)).fold(
+            0u64,
+            |sum, entry| sum.wrapping_add(u64::from(entry.item.size())),
+        )
+    }
+
+    /// The first of the largest.
+    pub fn largest(&self, choice: Choice) -> Option<T> {
+        self.entries
+            .iter()
+            .filter(|entry| choice.has(*entry))
+            .map(|entry| entry.item)
+            .reduce(|best, next| if next.size() > best.size() {
+                next
+            } else {
+                best
+            })
+    }
+}
+
+// changes
+impl<T: Record> Mirror<T> {
+    pub fn push_back(&mut self, chain: usize, item: T) -> Result<(), AllocError> {
+        self.entries.push(Entry { chain, item })?;
+        Ok(())
+    }
+
+    /// Where the first of the choice stands.
+    fn position(&self, choice: Choice) -> Option<usize>
+        ensures { IfSome result (λ i. i < length self.now.entries.items) }
+    {
+        self.entries.iter().position(|entry| choice.has(entry))
+    }
+
+    pub fn remove_first(&mut self, choice: Choice) -> Option<T> {
+        let at = self.position(choice)?;
+        Some(self.entries.remove(at).item)
+    }
+
+    pub fn remove_all(&mut self, choice: Choice) {
+        self.entries.retain(|entry| !choice.has(entry));
+    }
+
+    pub fn replace_first(&mut self, choice: Choice, item: T) -> Option<T> {
+        let at = self.position(choice)?;
+        Some(mem::replace(&mut self.entries[at].item, item))
+    }
 }

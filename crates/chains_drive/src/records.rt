@@ -5,7 +5,7 @@ ghost use Rattle.std.specs.Prelude.{◌≡◌, ℕ, ◌==◌, nat_lt};
 use chains::{Order, Test, Weight};
 
 /// A record of some kind and size.
-pub trait Record: Sized {
+pub trait Record: Copy + PartialEq {
     ghost kind: { Self → ℕ };
 
     ghost size: { Self → ℕ };
@@ -17,11 +17,9 @@ pub trait Record: Sized {
 
     fn size(&self) -> u32
         ensures { result ≡ size self.now };
-
-    fn same(&self, other: &Self) -> bool;
 }
 
-#[derive(Clone, Copy)]
+#[derive(Clone, Copy, PartialEq, Eq)]
 pub struct Small {
     pub kind: u8,
     pub size: u32,
@@ -43,13 +41,9 @@ impl Record for Small {
     fn size(&self) -> u32 {
         self.size
     }
-
-    fn same(&self, other: &Small) -> bool {
-        self.kind == other.kind && self.size == other.size
-    }
 }
 
-#[derive(Clone, Copy)]
+#[derive(Clone, Copy, PartialEq, Eq)]
 pub struct Large {
     pub serial: u64,
     pub size: u32,
@@ -75,10 +69,6 @@ impl Record for Large {
 
     fn size(&self) -> u32 {
         self.size
-    }
-
-    fn same(&self, other: &Large) -> bool {
-        self.serial == other.serial && self.size == other.size && self.kind == other.kind
     }
 }
 

@@ -1,15 +1,14 @@
 -- An answer as it is printed. Assumes nothing.
 use Rattle.std.specs.Prelude.{ℕ, List, [], ◌∷◌, ◌++◌, Some, None, Ok, Err, codes, decimal, Option, Result}
 use Rattle.terms.specs.declared.refusal.Refusal.{Refusal}
-use Rattle.terms.specs.declared.refusal.Refusal.TheVariants.{Field, ShortTable, NotEmpty, NotOpen, Taken, Leaving, ClockBack, NoOrder, NoSlip, SlipOut, WrongSlip, NoValues, Held, InUse, Allotment, SlipsFull, TooLarge, PutAndCall, LimitPrice}
 use Rattle.terms.specs.declared.messages.Fill.{Fill}
 use Rattle.terms.specs.declared.events.Effect.{Effect}
 use Rattle.terms.specs.declared.events.Struck.{Struck}
 use Rattle.terms.specs.declared.events.Trade.{Trade}
 use Rattle.terms.specs.declared.events.Event.{Event}
 use Rattle.terms.specs.declared.events.Event.TheVariants as event
-use Rattle.terms.specs.Refusals.{number, word}
-use Rattle.terms.specs.Kinds.{named}
+use Rattle.terms.specs.Entered.{entered_number, entered_effect}
+use Rattle.terms.specs.Refusals.{word, refusal_of, refusal_text}
 use Rattle.lines.specs.declared.answers.Answer.{Answer}
 use Rattle.lines.specs.declared.answers.Answer.TheVariants.{Done, Cancelled, Entered, NoTrade, Traded, Slip, Refused}
 use Rattle.lines.specs.Spelling.{spaced}
@@ -71,13 +70,6 @@ trade_text t =
 abbrev pub fill_text : Fill → List ℕ
 fill_text f = row (f.login ∷ f.number ∷ f.side ∷ f.contracts ∷ f.price ∷ [])
 
-abbrev pub refusals : List Refusal
-refusals =
-    Field ∷ ShortTable ∷ NotEmpty ∷ NotOpen ∷ Taken ∷ Leaving ∷ ClockBack ∷ NoOrder ∷ NoSlip ∷ SlipOut ∷ WrongSlip ∷ NoValues ∷ Held ∷ InUse ∷ Allotment ∷ SlipsFull ∷ TooLarge ∷ PutAndCall ∷ LimitPrice ∷ []
-
-abbrev pub refusal_of : ℕ → Option Refusal
-refusal_of = named number refusals
-
 -- the word of a refusal; a number of a check of one's own has none
 abbrev pub bracketed : Option Refusal → List ℕ
 bracketed None = []
@@ -87,12 +79,13 @@ abbrev pub text : Answer → List ℕ
 text Done = codes "ok"
 text (Cancelled n) = codes "cancelled " ++ decimal n
 text (Entered a) =
-    codes "enter " ++ (decimal a.number ++ (codes " " ++ (effect_text a.effect ++ bracketed (refusal_of a.number))))
+    codes "enter "
+    ++ (decimal (entered_number a) ++ (codes " " ++ (effect_text (entered_effect a) ++ bracketed (refusal_of (entered_number a)))))
 text NoTrade = codes "none"
 text (Traded s) =
     codes "trade " ++ (trade_text s.trade ++ (codes " buyer " ++ (effect_text s.buy ++ (codes " seller " ++ effect_text s.sell))))
 text (Slip f) = codes "slip " ++ fill_text f
-text (Refused e) = codes "refused " ++ (decimal (number e) ++ bracketed (Some e))
+text (Refused e) = codes "refused " ++ refusal_text e
 
 -- ---- a line that is answered
 

@@ -1,7 +1,7 @@
 //! What a gate answers, as it is printed.
 
 ghost use Rattle.std.specs.Prelude.{◌≡◌, ◌++◌, Some};
-ghost use Rattle.lines.specs.Answers.{effect_text, trade_text, fill_text, bracketed, refusal_of, text, or_refused, answer_of};
+ghost use Rattle.lines.specs.Answers.{effect_text, trade_text, fill_text, bracketed, text, or_refused, answer_of};
 
 use std::fmt;
 use terms::{Effect, EnterAnswer, Event, Fill, Refusal, Struck, Trade};
@@ -88,35 +88,6 @@ impl fmt::Display for InBrackets {
     }
 }
 
-/// The refusal that has this number.
-fn refusal_of(number: u8) -> Option<Refusal>
-    ensures { result ≡ refusal_of number }
-{
-    let refusal = match number {
-        1 => Refusal::Field,
-        2 => Refusal::ShortTable,
-        3 => Refusal::NotEmpty,
-        11 => Refusal::NotOpen,
-        12 => Refusal::Taken,
-        13 => Refusal::Leaving,
-        14 => Refusal::ClockBack,
-        15 => Refusal::NoOrder,
-        16 => Refusal::NoSlip,
-        17 => Refusal::SlipOut,
-        18 => Refusal::WrongSlip,
-        19 => Refusal::NoValues,
-        21 => Refusal::Held,
-        31 => Refusal::InUse,
-        32 => Refusal::Allotment,
-        33 => Refusal::SlipsFull,
-        41 => Refusal::TooLarge,
-        42 => Refusal::PutAndCall,
-        43 => Refusal::LimitPrice,
-        _ => return None,
-    };
-    Some(refusal)
-}
-
 impl fmt::Display for Answer {
     ghost output = { λ x. Some (text x) };
 
@@ -127,9 +98,9 @@ impl fmt::Display for Answer {
             Answer::Entered { answer } => write!(
                 f,
                 "enter {} {}{}",
-                answer.number,
-                Outcome(answer.effect),
-                InBrackets(refusal_of(answer.number))
+                answer.number(),
+                Outcome(answer.effect()),
+                InBrackets(Refusal::try_from(answer.number()).ok())
             ),
             Answer::NoTrade => write!(f, "none"),
             Answer::Traded { struck } => write!(
@@ -140,12 +111,7 @@ impl fmt::Display for Answer {
                 Outcome(struck.sell)
             ),
             Answer::Slip { fill } => write!(f, "slip {}", SlipFields(fill)),
-            Answer::Refused { refusal } => write!(
-                f,
-                "refused {}{}",
-                refusal.number(),
-                InBrackets(Some(refusal))
-            ),
+            Answer::Refused { refusal } => write!(f, "refused {refusal}"),
         }
     }
 }

@@ -1,5 +1,6 @@
 -- A call that is written is read back. Assumes nothing.
-use Rattle.std.proofs.Common.{◌≡◌, ℕ, true, false, List, [], ◌∷◌, ◌++◌, map, length, Some, None, Ok, Err, decimal, Option, Result, sym, refl, ap, ◌∙◌, inl, inr, arith}
+use Rattle.std.proofs.Common.{◌≡◌, ℕ, true, false, List, [], ◌∷◌, ◌++◌, map, length, Some, Ok, Err, decimal, Option, Result, sym, refl, ap, ◌∙◌, inl, inr, arith}
+use Rattle.std.proofs.lemmas.Option.{none-some}
 use Rattle.std.proofs.lemmas.Bool.{cases_Bool, cond-false, and_from, and_parts}
 use Rattle.std.proofs.lemmas.Bool.Decides.{nat_tests}
 use Rattle.script.specs.declared.fields.Fault.{Fault}
@@ -51,11 +52,11 @@ digits_plain (b ∷ bs) t =
     and_from (plain b) (all plain bs) (digit_plain b both.0) (digits_plain bs both.1)
 
 number_word : (w : List ℕ) (n : ℕ) → number_of w ≡ Some n → is_word w ≡ true
-number_word [] n e = absurd (let z : ◌≡◌ {A = ℕ} 0 1 = cc in omega arith)
+number_word [] n e = absurd (none-some n e)
 number_word (b ∷ bs) n e =
     elim (cases_Bool (all digit (b ∷ bs))) [
       | inl t ↦ digits_plain (b ∷ bs) t
-      | inr f ↦ absurd (let s : None ≡ Some n = sym (cond-false (all digit (b ∷ bs)) _ _ f) ∙ e in let z : ◌≡◌ {A = ℕ} 0 1 = cc in omega arith)
+      | inr f ↦ absurd (none-some n (sym (cond-false (all digit (b ∷ bs)) _ _ f) ∙ e))
     ]
 
 numbers_words : (ns : List ℕ) → Fit ns → all_words (map decimal ns)

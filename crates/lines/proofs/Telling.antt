@@ -2,6 +2,7 @@
 use Rattle.std.proofs.Common.{◌≡◌, ℕ, zero, suc, eqb, List, [], ◌∷◌, ◌++◌, map, length, drop, Some, None, Ok, Err, Option, Result, sym, refl, ap, ◌∙◌, subst, inl, inr, arith}
 use Rattle.std.specs.Str.{bytes_eq}
 use Rattle.std.proofs.lemmas.Slice.Eq.{bytes_eq-Decides}
+use Rattle.std.proofs.lemmas.Option.{none-some}
 use Rattle.std.proofs.lemmas.Bool.{cases_Bool, cond-true, cond-false}
 use Rattle.std.proofs.lemmas.Bool.Decides.{eqb_tells}
 use Rattle.script.specs.declared.fields.Fault as script
@@ -22,12 +23,9 @@ use Rattle.lines.specs.Spelling.{number_of as number_in, heading, numbers_of, sc
 
 -- ---- words
 
-some_none : {X : Type 0} {x : X} → Some x ≡ None → ⊥
-some_none e = let z : ◌≡◌ {A = ℕ} 0 1 = cc in omega arith
-
 -- a word that names something is its word
 worded_is : {X : Type 0} (word : X → List ℕ) (xs : List X) (w : List ℕ) (x : X) → worded word xs w ≡ Some x → w ≡ word x
-worded_is word [] w x e = absurd (some_none (sym e))
+worded_is word [] w x e = absurd (none-some x e)
 worded_is word (y ∷ ys) w x e =
     elim (cases_Bool (bytes_eq w (word y))) [
       | inl t ↦ (bytes_eq-Decides w (word y)).0 t ∙ (let same : Some y ≡ Some x = sym (cond-true (bytes_eq w (word y)) _ _ t) ∙ e in ap word (cc))
@@ -54,7 +52,7 @@ scope_named scope.Login = refl
 scope_named scope.Acronym = refl
 
 no_verb : (w : List ℕ) → verb_of w ≡ None → (v : Verb) → w ≡ word_of v → ⊥
-no_verb w e v is = some_none (sym (verb_named v) ∙ sym (ap verb_of is) ∙ e)
+no_verb w e v is = none-some v (sym e ∙ ap verb_of is ∙ verb_named v)
 
 -- ---- numbers by their places
 
@@ -94,7 +92,7 @@ module _ (v : Verb) (ws : List (List ℕ)) (f : ScopeWord → Result Call FieldF
 
   scope_read : (x : List ℕ) (xs : List (List ℕ)) (o : Option ScopeWord) → scope_of x ≡ o → ((s : ScopeWord) → x ≡ scope_word s → LineTold (word_of v ∷ x ∷ xs) (in_line (f s))) → LineTold (word_of v ∷ x ∷ xs) (in_line (for_scope f (or_scope v o)))
   scope_read x xs None e then =
-      (x ∷ xs, refl, λ s us is. some_none (sym (scope_named s) ∙ ap scope_of (let same : scope_word s ≡ x = cc in same) ∙ e))
+      (x ∷ xs, refl, λ s us is. none-some s (sym e ∙ ap scope_of (let same : x ≡ scope_word s = cc in same) ∙ scope_named s))
   scope_read x xs (Some s) e then = then s (worded_is scope_word (scope.Login ∷ scope.Acronym ∷ []) x s e)
 
 -- a call of a scope, from the words after that of the scope

@@ -30,7 +30,7 @@ fn field_names(verb: Verb) -> &'static [&'static str]
             "UNDERLYING",
         ],
         Verb::Open => &["LOGIN", "ACRONYM", "ROLE", "REACH"],
-        Verb::Retire => &["LOGIN"],
+        Verb::Retire | Verb::Take => &["LOGIN"],
         Verb::Limit => &["N", "KIND", "LIMIT", "INTERVAL"],
         Verb::Enter => &[
             "LOGIN",
@@ -44,9 +44,7 @@ fn field_names(verb: Verb) -> &'static [&'static str]
         ],
         Verb::Cancel => &["LOGIN", "NUMBER"],
         Verb::Strike => &[],
-        Verb::Take => &["LOGIN"],
-        Verb::Receipt => &["LOGIN", "NUMBER", "SIDE", "CONTRACTS", "PRICE"],
-        Verb::PutBack => &["LOGIN", "NUMBER", "SIDE", "CONTRACTS", "PRICE"],
+        Verb::Receipt | Verb::PutBack => &["LOGIN", "NUMBER", "SIDE", "CONTRACTS", "PRICE"],
         Verb::Kill => &["N", "REACH", "BLOCK"],
         Verb::Release => &["N"],
     }

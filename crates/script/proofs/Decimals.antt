@@ -1,6 +1,6 @@
 -- A number that is held to 64 bits digit by digit is the whole number, held to 64 bits. Assumes nothing.
-use Rattle.std.proofs.Common.{◌≡◌, ℕ, ◌+◌, ◌-◌, ◌*◌, ◌^◌, ◌<◌, min, Bool, true, false, cond, ◌&&◌, List, [], ◌∷◌, length, Some, None, decimal as shown, Option, sym, refl, ap, ◌∙◌, inl, inr, arith, rules}
-use Rattle.std.proofs.lemmas.Bool.{cases_Bool, cond-true, cond-false, and_left, both_ways}
+use Rattle.std.proofs.Common.{◌≡◌, ℕ, ◌+◌, ◌-◌, ◌*◌, ◌^◌, ◌<◌, min, true, cond, ◌&&◌, List, [], ◌∷◌, length, Some, None, decimal as shown, Option, sym, refl, ap, ◌∙◌, inl, inr, arith, rules}
+use Rattle.std.proofs.lemmas.Bool.{cases_Bool, cond-true, cond-false, and_left}
 use Rattle.std.proofs.lemmas.Str.Parse.{IsNumeralModel, numerals_by_fold}
 use Rattle.std.proofs.lemmas.Fmt.{decimal_nonempty, digits_decimal, digits_value-decimal}
 use Rattle.script.specs.Words.{all}
@@ -19,16 +19,12 @@ read_on n (b ∷ bs) = cond (digit b) (read_on (capped n (b - 48)) bs) None
 capped_once : (n d : ℕ) → capped (min n largest) d ≡ min (n * 10 + d) largest
 capped_once n d = omega arith
 
-true_and : (a b : Bool) → a ≡ true → (a && b) ≡ b
-true_and true b t = refl
-true_and false b t = absurd (both_ways false refl t)
-
 read_capped : (n : ℕ) (bs : List ℕ) → read_on (min n largest) bs ≡ cond (all digit bs) (Some (min (decimal_after n bs) largest)) None
 read_capped n [] = refl
 read_capped n (b ∷ bs) =
     elim (cases_Bool (digit b)) [
       | inl t ↦
-          cond-true (digit b) _ _ t ∙ ap (λ v. read_on v bs) (capped_once n (b - 48)) ∙ read_capped (n * 10 + (b - 48)) bs ∙ ap (λ v. cond v (Some (min (decimal_after n (b ∷ bs)) largest)) None) (sym (true_and (digit b) (all digit bs) t))
+          cond-true (digit b) _ _ t ∙ ap (λ v. read_on v bs) (capped_once n (b - 48)) ∙ read_capped (n * 10 + (b - 48)) bs ∙ ap (λ v. cond v (Some (min (decimal_after n (b ∷ bs)) largest)) None) (sym (ap (λ d. d && all digit bs) t))
       | inr f ↦ cond-false (digit b) _ _ f ∙ sym (cond-false (all digit (b ∷ bs)) _ _ (and_left (digit b) (all digit bs) f))
     ]
 

@@ -11,4 +11,4 @@ word_written so text word all rest whole t w e =
 pub loop-word-preserved : goal.loop-word-preserved
 loop-word-preserved g c plain =
     let i = c.loop-word.invariant plain in
-    (i.0 ++ (32 ∷ c.in_ok-text_of.field-0.now), has_written_append g.W.Write.write_str_gives _ _ _ _ _ i.1 (c.write.ensures.writes i.1.plain (ap is_ok c.in_ok-write.was)), word_written i.0 _ _ _ _ _ c.in_ok-text_of.ensures c.in-Some.ensures.steps i.2)
+    (i.0 ++ (32 ∷ c.in_ok-text_of.field-0.now), has_written_append g.W.Write.write_str_gives c.args.f.now i.0 c.loop-word.f (32 ∷ c.in_ok-text_of.field-0.now) c.write.new.self i.1 (c.write.ensures.writes i.1.plain (ap is_ok c.in_ok-write.was)), word_written i.0 _ _ _ _ _ c.in_ok-text_of.ensures c.in-Some.ensures.steps i.2)

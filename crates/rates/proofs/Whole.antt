@@ -1,23 +1,25 @@
 -- Each window is what the definition over all that the check was told makes it. Assumes nothing.
-use Rattle.std.proofs.Common.{◌≡◌, ℕ, ◌≤◌, Bool, true, false, cond, ◌&&◌, ◌||◌, eqb, List, [], ◌∷◌, length, sym, refl, ap, ◌∙◌, arith, eq-eqb, ne_eqb}
+use Rattle.std.proofs.Common.{◌≡◌, ℕ, suc, ◌<◌, ◌≤◌, Bool, true, false, cond, ◌&&◌, ◌||◌, eqb, List, [], ◌∷◌, map, length, get_or, sym, refl, ap, ◌∙◌, arith, eq-eqb, ne_eqb}
 use lib.ListN.{length-replicate}
 use borrow.Author.Tests.{clash}
 use Rattle.terms.specs.declared.messages.Causes.{Causes}
 use Rattle.terms.specs.declared.messages.Notice.{Notice}
 use Rattle.terms.specs.declared.messages.Notice.TheVariants.{Ticked, Valued, Opened, Closed, Limited, Released, Entered, TurnedDown, Filled}
+use Rattle.terms.proofs.Tables.{same_all}
 use Rattle.terms.specs.Tables.{at}
 use Rattle.checks.specs.Meaning.{for_all, whose, told_private, told_causes}
-use Rattle.checks.proofs.Places.{at_replicate, at_numbered, length_numbered}
+use Rattle.checks.proofs.Places.{at_numbered, length_numbered}
 use Rattle.checks.proofs.Told.{length_told, at_told}
 use Rattle.rates.specs.declared.windows.Rate.{Rate}
+use Rattle.rates.specs.declared.windows.FirmWindows.{FirmWindows}
 use Rattle.rates.specs.declared.windows.Rate.TheVariants.{Entries, Fills, TurnDowns}
 use Rattle.rates.specs.Runs.{Act, event, clearing, limiting, aside, acted, answered, lived, since, trips_now, newest, Ordered}
 use Rattle.rates.specs.Views.{View}
 use Rattle.rates.specs.Scopes.{ScopeView, new_scope, act, counted_by, scope_told, scope_cause}
-use Rattle.rates.specs.Firms.{FirmView, new_firm, login_of, for_firm, login_told, firm_told, firm_causes, rates}
+use Rattle.rates.specs.Firms.{FirmView, firm_view, new_firm, login_of, for_firm, login_told, firm_told, firm_causes, rates}
 use Rattle.rates.specs.Told.{clock, Forward, firms_after, of_firm, of_login, acts, cause_over, causes_over, AsTold}
 use Rattle.rates.proofs.Sound.{answers_since}
-use Rattle.rates.proofs.Notices.{same_cause, causes_told}
+use Rattle.rates.proofs.Notices.{same_cause, causes_told, causes_here}
 
 -- ---- the time of an act
 
@@ -159,7 +161,7 @@ module _ (a : ℕ) (low : 1 ≤ a) (high : a ≤ 8) where
   next_firm n ns = at_told rates n (clock ns) (firms_after ns) a new_firm low (omega (arith, eight_firms ns))
 
   firm_lives : (ns : List Notice) → Lives (of_firm a) (firm ns).own ns
-  firm_lives [] = λ k. ap (λ (q : FirmView). window_of k q.own) (at_replicate new_firm 8 a) ∙ new_lives (of_firm a) k
+  firm_lives [] = λ k. ap (λ (q : FirmView). window_of k q.own) (same_all new_firm 8 a) ∙ new_lives (of_firm a) k
   firm_lives (n ∷ ns) = goes_on (of_firm a) (firm ns).own (firm (n ∷ ns)).own n ns (firm_lives ns) step
     where
       step : (k : Rate) → window_of k (firm (n ∷ ns)).own ≡ acted (cond (of_firm a n) (act k (clock ns) n) aside) (window_of k (firm ns).own)
@@ -170,7 +172,7 @@ module _ (a : ℕ) (low : 1 ≤ a) (high : a ≤ 8) where
 
   module _ (l : ℕ) (lowest : 1 ≤ l) (highest : l ≤ 24) where
     all_logins : (ns : List Notice) → length (firm ns).logins ≡ 24
-    all_logins [] = ap (λ (q : FirmView). length q.logins) (at_replicate new_firm 8 a) ∙ length-replicate 24 new_scope
+    all_logins [] = ap (λ (q : FirmView). length q.logins) (same_all new_firm 8 a) ∙ length-replicate 24 new_scope
     all_logins (n ∷ ns) =
         ap (λ (q : FirmView). length q.logins) (next_firm n ns)
         ∙ kept (for_all n || eqb (whose n) a) ∙ all_logins ns
@@ -185,8 +187,8 @@ module _ (a : ℕ) (low : 1 ≤ a) (high : a ≤ 8) where
 
     login_lives : (ns : List Notice) → Lives (of_login a l) (login ns) ns
     login_lives [] = λ k.
-        ap (λ (q : FirmView). window_of k (at new_scope q.logins l)) (at_replicate new_firm 8 a)
-        ∙ ap (window_of k) (at_replicate new_scope 24 l) ∙ new_lives (of_login a l) k
+        ap (λ (q : FirmView). window_of k (at new_scope q.logins l)) (same_all new_firm 8 a)
+        ∙ ap (window_of k) (same_all new_scope 24 l) ∙ new_lives (of_login a l) k
     login_lives (n ∷ ns) = goes_on (of_login a l) (login ns) (login (n ∷ ns)) n ns (login_lives ns) step
       where
         told : at new_scope (firm_told (clock ns) n (firm ns)).logins l ≡ login_told (clock ns) n l (login ns)
@@ -229,3 +231,8 @@ as_told r n t firms is ns forward time-is firms-are low high lowest highest =
     let defined : firm_causes (clock ns) n (at new_firm (firms_after ns) (whose n)) ≡ causes_over (whose n) (login_of n) (n ∷ ns) =
     λ i. record { login = login_defined n ns forward low high lowest highest i; acronym = firm_defined n ns forward low high i } in
     is ∙ at_clock ∙ sym (causes_told n (clock ns) (at new_firm (firms_after ns) (whose n))) ∙ defined
+
+pub told_here :
+    (n : Notice) (p : ℕ) (rs : List FirmWindows) (w i : ℕ) (e : FirmWindows) → w ≡ whose n → w ≡ suc i → i < length rs
+    → (r : Causes) → r ≡ firm_causes p n (firm_view (get_or rs i e)) → AsTold r n p (map firm_view rs)
+told_here n p rs w i e whom is lt r so = as_told r n p (map firm_view rs) (causes_here n p rs w i e whom is lt r so)

@@ -5,7 +5,7 @@ ghost use Rattle.rates.specs.Firms.{login_in, is_firm, login_of, for_firm, time_
 
 use terms::{Notice, ScopeNumber};
 
-// The login of a scope, 0 where it is a firm.
+// The login of a scope, 0 where it is a firm. A number, since it is looked up in a table numbered from 1, where 0 reads as absent.
 fn login_in(scope: ScopeNumber) -> u64
     ensures { result ≡ login_in scope }
 {
@@ -18,24 +18,19 @@ fn login_in(scope: ScopeNumber) -> u64
 fn is_firm(scope: ScopeNumber) -> bool
     ensures { result ≡ is_firm scope }
 {
-    match scope {
-        ScopeNumber::Login(_) => false,
-        ScopeNumber::Acronym(_) => true,
-    }
+    matches!(scope, ScopeNumber::Acronym(_))
 }
 
-// The login whose windows a notice is for, 0 for none.
+// The login whose windows a notice is for, 0 for none, which no table has.
 pub(crate) fn login_of(notice: &Notice) -> u64
     ensures { result ≡ login_of notice.now }
 {
     match notice {
         Notice::Ticked { .. } | Notice::Valued { .. } => 0,
-        Notice::Opened { login, .. } => *login,
-        Notice::Closed { login, .. } => *login,
+        Notice::Opened { login, .. } | Notice::Closed { login, .. } => *login,
         Notice::Limited { limit, .. } => login_in(limit.scope),
         Notice::Released { scope, .. } => login_in(*scope),
-        Notice::Entered { asked } => asked.ticket.login,
-        Notice::TurnedDown { asked, .. } => asked.ticket.login,
+        Notice::Entered { asked } | Notice::TurnedDown { asked, .. } => asked.ticket.login,
         Notice::Filled { fill, .. } => fill.login,
     }
 }

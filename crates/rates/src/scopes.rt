@@ -14,26 +14,19 @@ impl Rate {
     fn goes_by(self, kind: u64) -> bool
         ensures { result ≡ (kind == kind_of self) }
     {
-        match (self, LimitKind::from_number(kind)) {
-            (Rate::Entries, Ok(LimitKind::Entries)) => true,
-            (Rate::Fills, Ok(LimitKind::Fills)) => true,
-            (Rate::TurnDowns, Ok(LimitKind::TurnDowns)) => true,
-            _ => false,
-        }
+        let own = match self {
+            Rate::Entries => LimitKind::Entries,
+            Rate::Fills => LimitKind::Fills,
+            Rate::TurnDowns => LimitKind::TurnDowns,
+        };
+        LimitKind::try_from(kind) == Ok(own)
     }
 
-    // The cause that it gives where its window trips.
+    // The cause that it gives where its window trips, and else 0: causes are plain numbers, as they are sent and as the meaning has them.
     fn cause(self, trips: bool) -> u8
         ensures { result ≡ cause_or self trips 0 }
     {
-        if !trips {
-            return 0;
-        }
-        match self {
-            Rate::Entries => 61,
-            Rate::Fills => 62,
-            Rate::TurnDowns => 63,
-        }
+        if trips { self as u8 } else { 0 }
     }
 }
 
@@ -65,9 +58,7 @@ impl ScopeWindows {
     pub(crate) fn renew(&mut self)
         ensures { scope_view self.new ≡ new_scope }
     {
-        self.entries.limit_to(0, 0);
-        self.fills.limit_to(0, 0);
-        self.turndowns.limit_to(0, 0);
+        *self = ScopeWindows::new();
     }
 
     fn clear(&mut self)
@@ -109,10 +100,8 @@ impl ScopeWindows {
             Notice::Limited { limit, .. } => self.limit_to(limit),
             Notice::Released { .. } => self.clear(),
             Notice::Entered { .. } => return self.count(Rate::Entries, time, 1),
-            Notice::TurnedDown { number, .. } => {
-                if number == Refusal::LimitPrice.number() {
-                    return self.count(Rate::TurnDowns, time, 1);
-                }
+            Notice::TurnedDown { number, .. } if number == Refusal::LimitPrice.number() => {
+                return self.count(Rate::TurnDowns, time, 1);
             }
             Notice::Filled { fill, .. } => return self.count(Rate::Fills, time, fill.contracts),
             _ => {}

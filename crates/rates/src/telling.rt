@@ -1,6 +1,8 @@
 //! The check of rates: the windows of every firm, by the clock.
 
-ghost use Rattle.std.specs.Prelude.{◌≡◌, map, length, replicate};
+ghost use Rattle.std.specs.Prelude.{◌≡◌, map, replicate};
+ghost use Rattle.std.proofs.Common.{◌∙◌};
+ghost use lib.ListN.{length-map};
 ghost use Rattle.terms.specs.Tables.{at};
 ghost use Rattle.checks.specs.Meaning.{told_public, told_each, told_causes, whose};
 ghost use Rattle.rates.specs.Firms.{firm_view, new_firm, rates, rates_lawful};
@@ -9,20 +11,8 @@ ghost use Rattle.rates.specs.Told.{AsTold};
 use crate::routing::time_after;
 use crate::windows::{FirmWindows, Rates};
 use checks::{Check, NO_CAUSE, acronym_of, place};
-use terms::{Asked, Causes, Notice};
-
-fn renew_firms(firms: &mut [FirmWindows; 8])
-    ensures { map firm_view firms.new ≡ replicate 8 new_firm }
-{
-    for firm in firms.iter_mut() {
-        firm.renew();
-    }
-}
-
-// A record for each acronym. Does nothing.
-fn eight(_firms: &[FirmWindows; 8])
-    ensures { length _firms.now ≡ 8 }
-{}
+use std::array;
+use terms::{Asked, Causes, Notice, TurnDown};
 
 impl Rates {
     /// At time 0, without any limit.
@@ -32,7 +22,7 @@ impl Rates {
     {
         Rates {
             time: 0,
-            firms: [FirmWindows::new(); 8],
+            firms: array::from_fn(|_| FirmWindows::new()),
         }
     }
 }
@@ -46,17 +36,19 @@ impl Check for Rates {
 
     ghost lawful = { rates_lawful };
 
-    fn judge(&self, _asked: Asked) -> u8 {
-        0
+    ghost eight = { λ s. length-map s.firms firm_view ∙ s.eight };
+
+    fn judge(&self, _asked: Asked) -> Result<(), TurnDown> {
+        Ok(())
     }
 
+    #[tactic(auto, using(crate::proofs::Notices::firm_steps, crate::proofs::Whole::as_told))]
     fn tell(&mut self, notice: Notice) -> Causes
         ensures shown { self.new.time ≡ told_public rates notice self.old.time }
         ensures own { map firm_view self.new.firms ≡ told_each rates 1 notice self.old.time (map firm_view self.old.firms) }
         ensures trips { result ≡ told_causes rates notice self.old.time (at new_firm (map firm_view self.old.firms) (whose notice)) }
         ensures defined { AsTold result notice self.old.time (map firm_view self.old.firms) }
     {
-        eight(&self.firms);
         let time = self.time;
         self.time = time_after(&notice, time);
         match place(acronym_of(&notice), 8) {
@@ -65,12 +57,7 @@ impl Check for Rates {
         }
     }
 
-    fn facts(&self) {
-        eight(&self.firms);
-    }
-
     fn renew(&mut self) {
-        self.time = 0;
-        renew_firms(&mut self.firms);
+        *self = Rates::new();
     }
 }

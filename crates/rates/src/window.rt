@@ -1,21 +1,19 @@
 //! One window: a limit, an interval, and what it has counted since it was cleared.
 
-ghost use Rattle.std.specs.Prelude.{◌≤◌};
+use arrayvec::ArrayVec;
 
 /// An event that counts: when it came, and how much.
-#[derive(Clone, Copy)]
+#[derive(Clone, Copy, Debug, Default, PartialEq, Eq)]
 pub struct Mark {
     pub(crate) time: u64,
     pub(crate) amount: u64,
 }
 
-/// The first `used` marks are kept, the oldest first. A limit of 0 is none.
-#[derive(Clone, Copy)]
+/// The marks lie in the window itself, the oldest first. A limit of 0 is none, as it is sent and as the laws have it.
+#[derive(Drop)]
 pub struct Window {
     pub(crate) limit: u64,
     pub(crate) interval: u64,
     pub(crate) tripped: bool,
-    pub(crate) used: u8,
-    pub(crate) marks: [Mark; 31],
-    ghost ok: { used ≤ 31 },
+    pub(crate) marks: ArrayVec<Mark, 31>,
 }

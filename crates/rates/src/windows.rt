@@ -1,17 +1,20 @@
 //! The windows of each login and each firm.
 
+ghost use Rattle.std.specs.Prelude.{◌≡◌, length};
+
 use crate::window::Window;
 
-/// What a window counts: entries accepted, contracts filled, or entries turned down for their price.
-#[derive(Clone, Copy)]
+/// What a window counts: entries accepted, contracts filled, or entries turned down for their price. Each has the number of the cause that
+/// its window gives where it trips.
+#[derive(Clone, Copy, Debug, PartialEq, Eq)]
 pub enum Rate {
-    Entries,
-    Fills,
-    TurnDowns,
+    Entries = 61,
+    Fills = 62,
+    TurnDowns = 63,
 }
 
 /// The windows of a login, or of a firm as a whole.
-#[derive(Clone, Copy)]
+#[derive(Drop)]
 pub struct ScopeWindows {
     pub(crate) entries: Window,
     pub(crate) fills: Window,
@@ -19,7 +22,7 @@ pub struct ScopeWindows {
 }
 
 /// The windows of a firm: its own, and those of the logins.
-#[derive(Clone, Copy)]
+#[derive(Drop)]
 pub struct FirmWindows {
     pub(crate) own: ScopeWindows,
     pub(crate) logins: [ScopeWindows; 24],
@@ -30,4 +33,5 @@ pub struct FirmWindows {
 pub struct Rates {
     pub(crate) time: u64,
     pub(crate) firms: [FirmWindows; 8],
+    ghost eight: { length firms ≡ 8 },
 }

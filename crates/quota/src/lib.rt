@@ -6,7 +6,7 @@ ghost use Rattle.std.specs.Prelude.{◌≡◌, length, replicate};
 ghost use Rattle.quota.specs.Quotas.{left_after, quota, quota_lawful};
 
 use checks::{Check, NO_CAUSE, acronym_of, put_at, read_at};
-use terms::{Asked, Causes, Notice};
+use terms::{Asked, Causes, Notice, TurnDown};
 
 #[cfg(test)]
 mod tests;
@@ -16,6 +16,7 @@ mod tests;
 pub struct Quota {
     most: u64,
     left: [u64; 8],
+    ghost eight: { length left ≡ 8 },
 }
 
 // What an acronym has left after a notice that names it.
@@ -27,11 +28,6 @@ fn left_after(notice: &Notice, left: u64) -> u64
         _ => left,
     }
 }
-
-// A record for each acronym. Does nothing.
-fn eight(_left: &[u64; 8])
-    ensures { length _left.now ≡ 8 }
-{}
 
 impl Quota {
     /// `most` entries for each firm.
@@ -55,22 +51,21 @@ impl Check for Quota {
 
     ghost lawful = { quota_lawful };
 
-    fn judge(&self, asked: Asked) -> u8 {
+    ghost eight = { λ s. s.eight };
+
+    fn judge(&self, asked: Asked) -> Result<(), TurnDown> {
         if read_at(&self.left, asked.acronym, self.most) == 0 {
-            return 45;
+            return Err(TurnDown::try_from(45).unwrap());
         }
-        0
+        Ok(())
     }
 
+    #[tactic(auto, using(crate::proofs::Left::left_told, checks::proofs::Told::same_either))]
     fn tell(&mut self, notice: Notice) -> Causes {
         let acronym = acronym_of(&notice);
         let left = read_at(&self.left, acronym, self.most);
         put_at(&mut self.left, acronym, left_after(&notice, left));
         NO_CAUSE
-    }
-
-    fn facts(&self) {
-        eight(&self.left);
     }
 
     fn renew(&mut self) {

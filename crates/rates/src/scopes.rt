@@ -58,7 +58,9 @@ impl ScopeWindows {
     pub(crate) fn renew(&mut self)
         ensures { scope_view self.new ≡ new_scope }
     {
-        *self = ScopeWindows::new();
+        self.entries.limit_to(0, 0);
+        self.fills.limit_to(0, 0);
+        self.turndowns.limit_to(0, 0);
     }
 
     fn clear(&mut self)

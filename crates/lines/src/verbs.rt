@@ -92,6 +92,7 @@ impl ScopeWord {
     }
 
     /// The scope that a word names, if it is one's.
+    // The look-up of `Verb` again: a trait for the two would be longer than both.
     pub(crate) fn named(word: &[u8]) -> Option<ScopeWord>
         ensures { result ≡ scope_of word.now }
     {

@@ -1,16 +1,17 @@
 -- The worked cases: what is asked, in plain numbers, and the answer that is due. Assumes nothing.
-use Rattle.std.specs.Prelude.{◌≡◌, ℕ, zero, suc, cond, List, [], ◌∷◌, map, Some, None, Err, Option, Result, ◌==◌}
+use Rattle.std.specs.Prelude.{◌≡◌, ℕ, zero, suc, cond, List, [], ◌∷◌, map, Some, None, Ok, Err, Option, Result, ◌==◌}
 use Rattle.terms.specs.declared.refusal.Refusal.{Refusal}
+use Rattle.terms.specs.declared.refusal.Refusal.TheVariants as refusal
 use Rattle.terms.specs.declared.refusal.Refusal.TheVariants.{Field}
 use Rattle.terms.specs.declared.values.Request.{Request}
 use Rattle.terms.specs.declared.values.Values.{Values}
 use Rattle.terms.specs.declared.values.RequestNumbers.{RequestNumbers}
 use Rattle.terms.specs.declared.values.ConditionNumbers.{ConditionNumbers}
 use Rattle.terms.specs.declared.values.ValueNumbers.{ValueNumbers}
+use Rattle.terms.specs.declared.messages.LimitNumbers.{LimitNumbers}
 use Rattle.terms.specs.declared.messages.Notice.{Notice}
 use Rattle.terms.specs.declared.messages.Notice.TheVariants.{Ticked, Limited, Entered, Filled}
 use Rattle.terms.specs.declared.messages.ScopeNumber.TheVariants.{Acronym}
-use Rattle.terms.specs.Refusals.{answer}
 use Rattle.terms.specs.Tables.{at}
 use Rattle.terms.specs.Values.{request, values}
 use Rattle.checks.specs.declared.desk.Judgement.{Judgement}
@@ -19,9 +20,15 @@ use Rattle.checks.specs.Meaning.{whose, told_causes}
 use Rattle.checks.specs.PutAndCall.{put_and_call}
 use Rattle.rates.specs.Firms.{new_firm, rates}
 use Rattle.rates.specs.Told.{clock, firms_after, of_firm, cause_over}
-use Rattle.cases.specs.declared.table.Case.{Case}
+use Rattle.cases.specs.declared.table.Answer.{Answer}
+use Rattle.cases.specs.declared.table.Answer.TheVariants.{Passes, Refused, Trips}
 use Rattle.cases.specs.declared.table.Burst.{Burst}
-use Rattle.cases.specs.declared.table.Case.TheVariants.{LimitPrice, PutAndCall, Windows}
+use Rattle.cases.specs.declared.table.Case.{Case}
+use Rattle.cases.specs.declared.table.Event.{Event}
+use Rattle.cases.specs.declared.table.Event.TheVariants.{Entry, Fill}
+use Rattle.cases.specs.declared.table.Moment.{Moment}
+use Rattle.cases.specs.declared.table.Question.{Question}
+use Rattle.cases.specs.declared.table.Question.TheVariants.{LimitPrice, PutAndCall, Windows}
 
 -- an unmarked order of a member
 abbrev pub order : (side price : ℕ) → RequestNumbers
@@ -36,9 +43,15 @@ put strike = record { option = 2; strike = strike; conditions = market 2 0 0 0 0
 
 -- ---- the cases of the windows
 
+abbrev pub entry : (time : ℕ) → Moment
+entry time = record { time = time; event = Entry }
+
+abbrev pub fill : (contracts time : ℕ) → Moment
+fill contracts time = record { time = time; event = Fill contracts }
+
 -- so many events alike at one time
-abbrev pub burst : (time events contracts : ℕ) → Burst
-burst time events contracts = record { time = time; events = events; contracts = contracts }
+abbrev pub many : (times : ℕ) → Moment → Burst
+many times m = record { times = times; moment = m }
 
 -- an order of login 1 of firm 1 that was accepted
 abbrev pub entered : Notice
@@ -48,13 +61,13 @@ entered = Entered (record { acronym = 1; role = 1; ticket = record { login = 1; 
 abbrev pub filled : (contracts : ℕ) → Notice
 filled contracts = Filled 1 (record { login = 1; number = 1; side = 1; contracts = contracts; price = 100 })
 
--- contracts are filled, or where there are none an entry is accepted
-abbrev pub event_of : (contracts : ℕ) → Notice
-event_of contracts = cond (contracts == 0) entered (filled contracts)
+abbrev pub notice_of : Event → Notice
+notice_of Entry = entered
+notice_of (Fill contracts) = filled contracts
 
 -- a limit for firm 1
-abbrev pub limited : (kind limit interval : ℕ) → Notice
-limited kind limit interval = Limited 1 (record { scope = Acronym 1; kind = kind; limit = limit; interval = interval })
+abbrev pub limit_for_firm : (kind limit interval : ℕ) → LimitNumbers
+limit_for_firm kind limit interval = record { scope = Acronym 1; kind = kind; limit = limit; interval = interval }
 
 -- the same notice again and again, before these
 abbrev pub repeated : ℕ → Notice → List Notice → List Notice
@@ -63,7 +76,7 @@ repeated (suc k) n ns = n ∷ repeated k n ns
 
 -- the notices of a burst, the newest first
 abbrev pub told : Burst → List Notice → List Notice
-told b ns = repeated b.events (event_of b.contracts) (Ticked b.time ∷ ns)
+told b ns = repeated b.times (notice_of b.moment.event) (Ticked b.moment.time ∷ ns)
 
 -- the cause that firm 1 has at the newest notice
 abbrev pub cause_at : List Notice → ℕ
@@ -71,27 +84,48 @@ cause_at [] = 0
 cause_at (n ∷ ns) = (told_causes rates n (clock ns) (at new_firm (firms_after ns) (whose n))).acronym
 
 -- a limit, two bursts and a last event
-abbrev pub window_notices : (kind limit interval : ℕ) → (first second : Burst) → (time contracts : ℕ) → List Notice
-window_notices kind limit interval first second time contracts =
-    event_of contracts ∷ Ticked time ∷ told second (told first (limited kind limit interval ∷ []))
+abbrev pub window_notices : LimitNumbers → (first second : Burst) → (last : Moment) → List Notice
+window_notices limit first second last = notice_of last.event ∷ Ticked last.time ∷ told second (told first (Limited 1 limit ∷ []))
 
--- the table
+-- ---- the table
+
+abbrev pub priced : (side price : ℕ) → ConditionNumbers → Answer → Case
+priced side price conditions due = record { question = LimitPrice (order side price) conditions; due = due }
+
+abbrev pub bought : (price : ℕ) → ValueNumbers → Answer → Case
+bought price values due = record { question = PutAndCall (order 1 price) values; due = due }
+
+abbrev pub windows : LimitNumbers → (first second : Burst) → (last : Moment) → Answer → Case
+windows limit first second last due = record { question = Windows limit first second last; due = due }
+
 abbrev pub cases : List Case
 cases =
     -- open, a reference of 100: 25 cents
-    LimitPrice (order 1 125) (market 2 90 100 0 0) 0 ∷ LimitPrice (order 1 126) (market 2 90 100 0 0) 43 ∷
+    priced 1 125 (market 2 90 100 0 0) Passes ∷ priced 1 126 (market 2 90 100 0 0) (Refused refusal.LimitPrice) ∷
     -- open, a sell against 95: 15 cents
-    LimitPrice (order 2 80) (market 2 95 100 0 0) 0 ∷ LimitPrice (order 2 79) (market 2 95 100 0 0) 43 ∷
+    priced 2 80 (market 2 95 100 0 0) Passes ∷ priced 2 79 (market 2 95 100 0 0) (Refused refusal.LimitPrice) ∷
     -- bid and offer at 100 do not count: the venue's offer does
-    LimitPrice (order 1 105) (market 2 100 100 90 0) 0 ∷ LimitPrice (order 1 106) (market 2 100 100 90 0) 43 ∷
+    priced 1 105 (market 2 100 100 90 0) Passes ∷ priced 1 106 (market 2 100 100 90 0) (Refused refusal.LimitPrice) ∷
     -- before the opening, a bid of 80 alone: a close of 80 counts, one of 79 does not
-    LimitPrice (order 1 95) (market 1 80 0 0 80) 0 ∷ LimitPrice (order 1 96) (market 1 80 0 0 80) 43 ∷ LimitPrice (order 1 96) (market 1 80 0 0 79) 0 ∷
+    priced 1 95 (market 1 80 0 0 80) Passes ∷ priced 1 96 (market 1 80 0 0 80) (Refused refusal.LimitPrice) ∷ priced 1 96 (market 1 80 0 0 79) Passes ∷
     -- a put of strike 5,000
-    PutAndCall (order 1 4999) (put 5000) 0 ∷ PutAndCall (order 1 5000) (put 5000) 42 ∷
+    bought 4999 (put 5000) Passes ∷ bought 5000 (put 5000) (Refused refusal.PutAndCall) ∷
     -- 3 entries in 1,000 ms: the first counts until 999
-    Windows 1 3 1000 (burst 0 1 0) (burst 500 1 0) 1000 0 0 ∷ Windows 1 3 1000 (burst 0 1 0) (burst 500 1 0) 999 0 61 ∷
+    windows (limit_for_firm 1 3 1000) (many 1 (entry 0)) (many 1 (entry 500)) (entry 1000) Passes ∷
+    windows (limit_for_firm 1 3 1000) (many 1 (entry 0)) (many 1 (entry 500)) (entry 999) (Trips 61) ∷
     -- 10 entries in a minute, and 1,000 contracts
-    Windows 1 10 60000 (burst 0 3 0) (burst 90000 9 0) 120000 0 61 ∷ Windows 2 1000 60000 (burst 0 1 600) (burst 75000 1 500) 120000 500 62 ∷ []
+    windows (limit_for_firm 1 10 60000) (many 3 (entry 0)) (many 9 (entry 90000)) (entry 120000) (Trips 61) ∷
+    windows (limit_for_firm 2 1000 60000) (many 1 (fill 600 0)) (many 1 (fill 500 75000)) (fill 500 120000) (Trips 62) ∷ []
+
+-- ---- the answers
+
+abbrev pub answered : Result (Unit {0}) Refusal → Answer
+answered (Ok u) = Passes
+answered (Err x) = Refused x
+
+-- by the cause that a firm has, 0 for none
+abbrev pub of_cause : (cause : ℕ) → Answer
+of_cause cause = cond (cause == 0) Passes (Trips cause)
 
 -- what limit price answers, also where a field is refused
 abbrev pub priced_answer : Option Judgement → Result (Unit {0}) Refusal
@@ -104,26 +138,21 @@ bought_answer None v = Err Field
 bought_answer (Some q) None = Err Field
 bought_answer (Some q) (Some v) = put_and_call q v
 
-abbrev pub answer_to : Case → ℕ
-answer_to (LimitPrice q c due) = answer (priced_answer (judgement q c))
-answer_to (PutAndCall q v due) = answer (bought_answer (request q) (values v))
-answer_to (Windows kind limit interval first second time contracts due) = cause_at (window_notices kind limit interval first second time contracts)
-
-abbrev pub due_for : Case → ℕ
-due_for (LimitPrice q c due) = due
-due_for (PutAndCall q v due) = due
-due_for (Windows kind limit interval first second time contracts due) = due
+abbrev pub answer_to : Question → Answer
+answer_to (LimitPrice q c) = answered (priced_answer (judgement q c))
+answer_to (PutAndCall q v) = answered (bought_answer (request q) (values v))
+answer_to (Windows limit first second last) = of_cause (cause_at (window_notices limit first second last))
 
 -- Every worked case is answered as is due.
 abbrev pub AllAsDue : Type 0
-AllAsDue = map answer_to cases ≡ map due_for cases
+AllAsDue = map (λ c. answer_to c.question) cases ≡ map (λ c. c.due) cases
 
--- what the definition of the windows over all the notices gives
-abbrev pub defined_for : Case → ℕ
-defined_for (LimitPrice q c due) = due
-defined_for (PutAndCall q v due) = due
-defined_for (Windows kind limit interval first second time contracts due) = cause_over (of_firm 1) (window_notices kind limit interval first second time contracts)
+-- what the definition of the windows over all the notices gives; to another question it gives what is due
+abbrev pub defined_for : Question → (due : Answer) → Answer
+defined_for (LimitPrice q c) due = due
+defined_for (PutAndCall q v) due = due
+defined_for (Windows limit first second last) due = of_cause (cause_over (of_firm 1) (window_notices limit first second last))
 
 -- The windows' cases come out of the definition over all that was told, too.
 abbrev pub AllAsDefined : Type 0
-AllAsDefined = map defined_for cases ≡ map due_for cases
+AllAsDefined = map (λ c. defined_for c.question c.due) cases ≡ map (λ c. c.due) cases

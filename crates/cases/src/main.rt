@@ -4,8 +4,8 @@
 
 mod table;
 
-use std::io;
-use table::{Burst, Case, answer_to, due, worked};
+use std::{fmt, io};
+use table::{Answer, Burst, Case, Event, Question, answer_to, worked};
 use terms::ConditionNumbers;
 
 fn side_word(side: u64) -> &'static str {
@@ -13,82 +13,85 @@ fn side_word(side: u64) -> &'static str {
 }
 
 /// So many events at a time.
-fn show_burst(rt: &HostRuntime, burst: &Burst) -> io::Result<()> {
-    let Burst {
-        time,
-        events,
-        contracts,
-    } = *burst;
-    if contracts == 0 {
-        return print!(rt; ", {events} at {time}");
+impl fmt::Display for Burst {
+    fn fmt<W: fmt::Write>(&self, f: &mut fmt::Formatter<W>) -> fmt::Result {
+        let times = self.times;
+        let time = self.moment.time;
+        match self.moment.event {
+            Event::Entry => write!(f, "{times} at {time}"),
+            Event::Fill { contracts } => write!(f, "{times} of {contracts} at {time}"),
+        }
     }
-    print!(rt; ", {events} of {contracts} at {time}")
 }
 
-/// What is asked in a case, in a few words.
-fn show_asked(rt: &HostRuntime, case: &Case) -> io::Result<()> {
-    match *case {
-        Case::LimitPrice {
-            request,
-            conditions,
-            ..
-        } => {
-            let ConditionNumbers {
-                phase,
-                nbb,
-                nbo,
-                offer,
-                close,
-                ..
-            } = conditions;
-            let side = side_word(request.side);
-            let price = request.price;
-            print!(rt;
-                "limit price: {side} {price}, phase {phase}, nbb {nbb}, nbo {nbo}, offer {offer}, close {close}"
-            )
+/// What is asked, in a few words.
+impl fmt::Display for Question {
+    fn fmt<W: fmt::Write>(&self, f: &mut fmt::Formatter<W>) -> fmt::Result {
+        match *self {
+            Question::LimitPrice {
+                request,
+                conditions,
+            } => {
+                let ConditionNumbers {
+                    phase,
+                    nbb,
+                    nbo,
+                    offer,
+                    close,
+                    ..
+                } = conditions;
+                let side = side_word(request.side);
+                let price = request.price;
+                write!(
+                    f,
+                    "limit price: {side} {price}, phase {phase}, nbb {nbb}, nbo {nbo}, offer {offer}, close {close}"
+                )
+            }
+            Question::PutAndCall { request, values } => {
+                let side = side_word(request.side);
+                let price = request.price;
+                let strike = values.strike;
+                write!(f, "put and call: {side} {price}, strike {strike}")
+            }
+            Question::Windows {
+                limit,
+                first,
+                second,
+                last,
+            } => {
+                let kind = limit.kind;
+                let most = limit.limit;
+                let interval = limit.interval;
+                let last = Burst {
+                    times: 1,
+                    moment: last,
+                };
+                write!(
+                    f,
+                    "window {kind}: limit {most} in {interval} ms, {first}, {second}, {last}"
+                )
+            }
         }
-        Case::PutAndCall {
-            request,
-            values,
-            ..
-        } => {
-            let side = side_word(request.side);
-            let price = request.price;
-            let strike = values.strike;
-            print!(rt; "put and call: {side} {price}, strike {strike}")
-        }
-        Case::Windows {
-            kind,
-            limit,
-            interval,
-            first,
-            second,
-            time,
-            contracts,
-            ..
-        } => {
-            print!(rt; "window {kind}: limit {limit} in {interval} ms")?;
-            show_burst(rt, &first)?;
-            show_burst(rt, &second)?;
-            show_burst(
-                rt,
-                &Burst {
-                    time,
-                    events: 1,
-                    contracts,
-                },
-            )
+    }
+}
+
+/// Its number: 0 where nothing is refused and nothing trips.
+impl fmt::Display for Answer {
+    fn fmt<W: fmt::Write>(&self, f: &mut fmt::Formatter<W>) -> fmt::Result {
+        match *self {
+            Answer::Passes => f.write_str("0"),
+            Answer::Refused(refusal) => write!(f, "{}", refusal.number()),
+            Answer::Trips(cause) => write!(f, "{cause}"),
         }
     }
 }
 
 /// One line for a case.
 fn show(rt: &HostRuntime, case: &Case) -> io::Result<()> {
-    show_asked(rt, case)?;
-    let got = answer_to(case);
-    let due = due(case);
-    let word = if got == due { "as due" } else { "WRONG" };
-    println!(rt; " -> {got}, {word}")
+    let question = case.question;
+    let got = answer_to(&question);
+    let word = if got == case.due { "as due" } else { "WRONG" };
+    println!(rt; "{question} -> {got}, {word}")
 }
 
 fn main(rt: HostRuntime) -> io::Result<()> {

@@ -1,12 +1,11 @@
 //! The worked cases: what is asked, in plain numbers, and the answer that is due.
 
 ghost use Rattle.std.specs.Prelude.{◌≡◌, List, [], ◌∷◌};
-ghost use Rattle.terms.specs.Refusals.{answer};
 ghost use Rattle.terms.specs.Values.{request as request_of, values as values_of};
 ghost use Rattle.checks.specs.Desk.{judgement};
 ghost use Rattle.terms.specs.declared.messages.Notice.{Notice};
-ghost use Rattle.terms.specs.declared.messages.Notice.TheVariants.{Ticked};
-ghost use Rattle.cases.specs.Cases.{answer_to, due_for, order as order_at, market as market_in, put as put_of, burst as burst_of, limited as limited_by, event_of, told, cause_at, cases as worked_cases, priced_answer, bought_answer, AllAsDue, AllAsDefined};
+ghost use Rattle.terms.specs.declared.messages.Notice.TheVariants.{Ticked, Limited};
+ghost use Rattle.cases.specs.Cases.{answer_to, order as order_at, market as market_in, put as put_of, priced as priced_case, bought as bought_case, windows as windows_case, entry as entry_at, fill as fill_at, many as many_of, limit_for_firm, notice_of, answered, of_cause, told, cause_at, cases as worked_cases, priced_answer, bought_answer, AllAsDue, AllAsDefined};
 ghost use Rattle.cases.specs.Playing.{Stands, GoesOn};
 
 use checks::{Check, judge_price, put_and_call};
@@ -16,37 +15,85 @@ use terms::{
     ScopeNumber, Ticket, ValueNumbers, Values,
 };
 
-/// So many events alike at one time: fills of so many contracts, or where that is 0 entries.
-#[derive(Clone, Copy)]
-pub struct Burst {
-    pub time: u64,
-    pub events: u64,
-    pub contracts: u64,
+/// What is counted: an entry that is accepted, or contracts that are filled.
+#[derive(Clone, Copy, Debug, PartialEq, Eq)]
+pub enum Event {
+    Entry,
+    Fill { contracts: u64 },
 }
 
+/// An event at a time.
+#[derive(Clone, Copy, Debug, PartialEq, Eq)]
+pub struct Moment {
+    pub time: u64,
+    pub event: Event,
+}
+
+/// So many events alike at one time.
+#[derive(Clone, Copy, Debug, PartialEq, Eq)]
+pub struct Burst {
+    pub times: u64,
+    pub moment: Moment,
+}
+
+/// What is asked, in plain numbers as they are sent.
 #[derive(Clone, Copy)]
-pub enum Case {
+pub enum Question {
     LimitPrice {
         request: RequestNumbers,
         conditions: ConditionNumbers,
-        due: u8,
     },
     PutAndCall {
         request: RequestNumbers,
         values: ValueNumbers,
-        due: u8,
     },
     /// A limit for a firm, two bursts of its events, and one last event.
     Windows {
-        kind: u64,
-        limit: u64,
-        interval: u64,
+        limit: LimitNumbers,
         first: Burst,
         second: Burst,
-        time: u64,
-        contracts: u64,
-        due: u8,
+        last: Moment,
     },
+}
+
+/// What comes of a case.
+#[derive(Clone, Copy, Debug, PartialEq, Eq)]
+pub enum Answer {
+    /// Nothing is refused, and nothing trips.
+    Passes,
+    Refused(Refusal),
+    /// The firm trips for this cause.
+    Trips(u8),
+}
+
+/// A question with the answer that is due.
+#[derive(Clone, Copy)]
+pub struct Case {
+    pub question: Question,
+    pub due: Answer,
+}
+
+impl From<Result<(), Refusal>> for Answer {
+    ghost from_gives = { λ r a. a ≡ answered r };
+
+    fn from(verdict: Result<(), Refusal>) -> Answer {
+        match verdict {
+            Ok(()) => Answer::Passes,
+            Err(refusal) => Answer::Refused(refusal),
+        }
+    }
+}
+
+impl Answer {
+    // By the cause that a firm has, 0 for none.
+    fn of_cause(cause: u8) -> Answer
+        ensures { result ≡ of_cause cause }
+    {
+        match cause {
+            0 => Answer::Passes,
+            _ => Answer::Trips(cause),
+        }
+    }
 }
 
 /// An unmarked order of a member.
@@ -89,188 +136,174 @@ fn put(strike: u64) -> ValueNumbers
     }
 }
 
-fn priced(side: u64, price: u64, conditions: ConditionNumbers, due: u8) -> Case
-    ensures { result ≡ Case.LimitPrice (order_at side price) conditions due }
+fn priced(side: u64, price: u64, conditions: ConditionNumbers, due: Answer) -> Case
+    ensures { result ≡ priced_case side price conditions due }
 {
-    Case::LimitPrice {
-        request: order(side, price),
-        conditions,
+    Case {
+        question: Question::LimitPrice {
+            request: order(side, price),
+            conditions,
+        },
         due,
     }
 }
 
-fn bought(price: u64, values: ValueNumbers, due: u8) -> Case
-    ensures { result ≡ Case.PutAndCall (order_at 1 price) values due }
+fn bought(price: u64, values: ValueNumbers, due: Answer) -> Case
+    ensures { result ≡ bought_case price values due }
 {
-    Case::PutAndCall {
-        request: order(1, price),
-        values,
-        due,
-    }
+    let request = order(1, price);
+    let question = Question::PutAndCall { request, values };
+    Case { question, due }
 }
 
-fn events(time: u64, events: u64, contracts: u64) -> Burst
-    ensures { result ≡ burst_of time events contracts }
+fn limit_for_firm(kind: u64, limit: u64, interval: u64) -> LimitNumbers
+    ensures { result ≡ limit_for_firm kind limit interval }
 {
-    Burst {
-        time,
-        events,
-        contracts,
-    }
-}
-
-fn windows(
-    kind: u64,
-    limit: u64,
-    interval: u64,
-    bursts: (Burst, Burst),
-    last: (u64, u64),
-    due: u8,
-) -> Case
-    ensures { result ≡ Case.Windows kind limit interval bursts.0 bursts.1 last.0 last.1 due }
-{
-    Case::Windows {
+    LimitNumbers {
+        scope: ScopeNumber::Acronym(1),
         kind,
         limit,
         interval,
-        first: bursts.0,
-        second: bursts.1,
-        time: last.0,
-        contracts: last.1,
-        due,
     }
 }
 
+fn entry(time: u64) -> Moment
+    ensures { result ≡ entry_at time }
+{
+    Moment {
+        time,
+        event: Event::Entry,
+    }
+}
+
+fn fill(contracts: u64, time: u64) -> Moment
+    ensures { result ≡ fill_at contracts time }
+{
+    Moment {
+        time,
+        event: Event::Fill { contracts },
+    }
+}
+
+fn many(times: u64, moment: Moment) -> Burst
+    ensures { result ≡ many_of times moment }
+{
+    Burst { times, moment }
+}
+
+fn windows(limit: LimitNumbers, first: Burst, second: Burst, last: Moment, due: Answer) -> Case
+    ensures { result ≡ windows_case limit first second last due }
+{
+    let question = Question::Windows {
+        limit,
+        first,
+        second,
+        last,
+    };
+    Case { question, due }
+}
+
 /// The table, of which every case is answered as is due.
+#[tactic(auto, unfolding(terms::specs::Values::bid_offer, terms::specs::Values::conditions, terms::specs::Values::request, terms::specs::Values::values))]
 pub fn worked() -> [Case; 15]
     ensures table { result ≡ worked_cases }
     ensures right { AllAsDue }
     ensures defined { AllAsDefined }
 {
+    let passes = Answer::Passes;
+    let past = Answer::Refused(Refusal::LimitPrice);
     [
-        priced(1, 125, market(2, 90, 100, 0, 0), 0),
-        priced(1, 126, market(2, 90, 100, 0, 0), 43),
-        priced(2, 80, market(2, 95, 100, 0, 0), 0),
-        priced(2, 79, market(2, 95, 100, 0, 0), 43),
-        priced(1, 105, market(2, 100, 100, 90, 0), 0),
-        priced(1, 106, market(2, 100, 100, 90, 0), 43),
-        priced(1, 95, market(1, 80, 0, 0, 80), 0),
-        priced(1, 96, market(1, 80, 0, 0, 80), 43),
-        priced(1, 96, market(1, 80, 0, 0, 79), 0),
-        bought(4_999, put(5_000), 0),
-        bought(5_000, put(5_000), 42),
+        priced(1, 125, market(2, 90, 100, 0, 0), passes),
+        priced(1, 126, market(2, 90, 100, 0, 0), past),
+        priced(2, 80, market(2, 95, 100, 0, 0), passes),
+        priced(2, 79, market(2, 95, 100, 0, 0), past),
+        priced(1, 105, market(2, 100, 100, 90, 0), passes),
+        priced(1, 106, market(2, 100, 100, 90, 0), past),
+        priced(1, 95, market(1, 80, 0, 0, 80), passes),
+        priced(1, 96, market(1, 80, 0, 0, 80), past),
+        priced(1, 96, market(1, 80, 0, 0, 79), passes),
+        bought(4_999, put(5_000), passes),
+        bought(5_000, put(5_000), Answer::Refused(Refusal::PutAndCall)),
         windows(
-            1,
-            3,
-            1_000,
-            (events(0, 1, 0), events(500, 1, 0)),
-            (1_000, 0),
-            0,
+            limit_for_firm(1, 3, 1_000),
+            many(1, entry(0)),
+            many(1, entry(500)),
+            entry(1_000),
+            passes,
         ),
         windows(
-            1,
-            3,
-            1_000,
-            (events(0, 1, 0), events(500, 1, 0)),
-            (999, 0),
-            61,
+            limit_for_firm(1, 3, 1_000),
+            many(1, entry(0)),
+            many(1, entry(500)),
+            entry(999),
+            Answer::Trips(61),
         ),
         windows(
-            1,
-            10,
-            60_000,
-            (events(0, 3, 0), events(90_000, 9, 0)),
-            (120_000, 0),
-            61,
+            limit_for_firm(1, 10, 60_000),
+            many(3, entry(0)),
+            many(9, entry(90_000)),
+            entry(120_000),
+            Answer::Trips(61),
         ),
         windows(
-            2,
-            1_000,
-            60_000,
-            (events(0, 1, 600), events(75_000, 1, 500)),
-            (120_000, 500),
-            62,
+            limit_for_firm(2, 1_000, 60_000),
+            many(1, fill(600, 0)),
+            many(1, fill(500, 75_000)),
+            fill(500, 120_000),
+            Answer::Trips(62),
         ),
     ]
-}
-
-pub fn due(case: &Case) -> u8
-    ensures { result ≡ due_for case.now }
-{
-    match *case {
-        Case::LimitPrice { due, .. } => due,
-        Case::PutAndCall { due, .. } => due,
-        Case::Windows { due, .. } => due,
-    }
-}
-
-fn number_of(verdict: Result<(), Refusal>) -> u8
-    ensures { result ≡ answer verdict }
-{
-    match verdict {
-        Ok(()) => 0,
-        Err(refusal) => refusal.number(),
-    }
 }
 
 fn priced_answer(request: RequestNumbers, conditions: ConditionNumbers) -> Result<(), Refusal>
     ensures { result ≡ priced_answer (judgement request conditions) }
 {
-    match judge_price(request, conditions) {
-        Ok(judgement) => judgement.verdict,
-        Err(refusal) => Err(refusal),
-    }
+    let judgement = judge_price(request, conditions)?;
+    judgement.verdict
 }
 
 fn bought_answer(request: RequestNumbers, values: ValueNumbers) -> Result<(), Refusal>
     ensures { result ≡ bought_answer (request_of request) (values_of values) }
 {
-    let request = Request::from_numbers(request)?;
-    let values = Values::from_numbers(values)?;
+    let request = Request::try_from(request)?;
+    let values = Values::try_from(values)?;
     put_and_call(&request, &values)
 }
 
-fn limited(kind: u64, limit: u64, interval: u64) -> Notice
-    ensures { result ≡ limited_by kind limit interval }
-{
-    let limit = LimitNumbers {
-        scope: ScopeNumber::Acronym(1),
-        kind,
-        limit,
-        interval,
-    };
-    Notice::Limited { acronym: 1, limit }
-}
+/// To login 1 of firm 1.
+impl From<Event> for Notice {
+    ghost from_gives = { λ e n. n ≡ notice_of e };
 
-fn event_of(contracts: u64) -> Notice
-    ensures { result ≡ event_of contracts }
-{
-    if contracts == 0 {
-        let ticket = Ticket {
-            login: 1,
-            number: 1,
-            series: 1,
-            side: 1,
-            kind: 1,
-            marks: 0,
-            price: 100,
-            contracts: 1,
-        };
-        let asked = Asked {
-            acronym: 1,
-            role: 1,
-            ticket,
-        };
-        return Notice::Entered { asked };
+    fn from(event: Event) -> Notice {
+        match event {
+            Event::Entry => Notice::Entered {
+                asked: Asked {
+                    acronym: 1,
+                    role: 1,
+                    ticket: Ticket {
+                        login: 1,
+                        number: 1,
+                        series: 1,
+                        side: 1,
+                        kind: 1,
+                        marks: 0,
+                        price: 100,
+                        contracts: 1,
+                    },
+                },
+            },
+            Event::Fill { contracts } => Notice::Filled {
+                acronym: 1,
+                fill: Fill {
+                    login: 1,
+                    number: 1,
+                    side: 1,
+                    contracts,
+                    price: 100,
+                },
+            },
+        }
     }
-    let fill = Fill {
-        login: 1,
-        number: 1,
-        side: 1,
-        contracts,
-        price: 100,
-    };
-    Notice::Filled { acronym: 1, fill }
 }
 
 /// One notice more, and the cause that the firm has.
@@ -284,55 +317,41 @@ fn tell(rates: &mut Rates, notice: Notice) -> u8
 fn tell_burst(rates: &mut Rates, burst: Burst)
     ensures { GoesOn rates.old rates.new (told burst) }
 {
-    let event = event_of(burst.contracts);
-    let _ = tell(rates, Notice::Ticked { time: burst.time });
-    for _i in 0..burst.events {
+    let Moment { time, event } = burst.moment;
+    let event = Notice::from(event);
+    let _ = tell(rates, Notice::Ticked { time });
+    for _i in 0..burst.times {
         let _ = tell(rates, event);
     }
 }
 
 /// The cause at the last event.
-fn windows_answer(limit: Notice, first: Burst, second: Burst, time: u64, contracts: u64) -> u8
-    ensures { result ≡ cause_at (event_of contracts ∷ Ticked time ∷ told second (told first (limit ∷ []))) }
+fn windows_answer(limit: LimitNumbers, first: Burst, second: Burst, last: Moment) -> u8
+    ensures { result ≡ cause_at (notice_of last.event ∷ Ticked last.time ∷ told second (told first (Limited 1 limit ∷ []))) }
 {
     let mut rates = Rates::new();
-    let _ = tell(&mut rates, limit);
+    let _ = tell(&mut rates, Notice::Limited { acronym: 1, limit });
     tell_burst(&mut rates, first);
     tell_burst(&mut rates, second);
-    let _ = tell(&mut rates, Notice::Ticked { time });
-    tell(&mut rates, event_of(contracts))
+    let _ = tell(&mut rates, Notice::Ticked { time: last.time });
+    tell(&mut rates, Notice::from(last.event))
 }
 
-/// What the code answers to a case.
-pub fn answer_to(case: &Case) -> u8
-    ensures { result ≡ answer_to case.now }
+/// What the code answers to a question.
+pub fn answer_to(question: &Question) -> Answer
+    ensures { result ≡ answer_to question.now }
 {
-    match *case {
-        Case::LimitPrice {
+    match *question {
+        Question::LimitPrice {
             request,
             conditions,
-            ..
-        } => number_of(priced_answer(request, conditions)),
-        Case::PutAndCall {
-            request,
-            values,
-            ..
-        } => number_of(bought_answer(request, values)),
-        Case::Windows {
-            kind,
+        } => Answer::from(priced_answer(request, conditions)),
+        Question::PutAndCall { request, values } => Answer::from(bought_answer(request, values)),
+        Question::Windows {
             limit,
-            interval,
             first,
             second,
-            time,
-            contracts,
-            ..
-        } => windows_answer(
-            limited(kind, limit, interval),
-            first,
-            second,
-            time,
-            contracts,
-        ),
+            last,
+        } => Answer::of_cause(windows_answer(limit, first, second, last)),
     }
 }

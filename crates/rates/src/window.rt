@@ -9,7 +9,8 @@ pub struct Mark {
     pub(crate) amount: u64,
 }
 
-/// The marks lie in the window itself, the oldest first. A limit of 0 is none, as it is sent and as the laws have it.
+/// The marks lie in the window itself, the oldest first. A limit of 0 is none, as it is sent and as the laws have it. So is the flag the
+/// laws' own: with an enum in place of it the marks would have to be matched on to be counted, and made anew to be cleared.
 #[derive(Drop)]
 pub struct Window {
     pub(crate) limit: u64,

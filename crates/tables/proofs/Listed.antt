@@ -1,11 +1,10 @@
 -- Tests, counts and sums over lists of lists, and lists seen through a function.
-use Rattle.std.proofs.Common.{Result, Ok, Err, ◌↔◌, IsOk, OnOk, ◌≡◌, ℕ, zero, suc, ◌+◌, ◌<◌, ◌≤◌, Bool, true, false, cond, not, ◌||◌, ltb, List, [], ◌∷◌, map, length, get_or, take, sum_by, filter, sym, refl, ap, ◌∙◌, add-one, arith, ltb-false, ltb-true, lt-ltb}
+use Rattle.std.proofs.Common.{◌≡◌, ℕ, zero, suc, ◌+◌, ◌<◌, ◌≤◌, Bool, true, false, cond, not, ◌||◌, ltb, List, [], ◌∷◌, map, length, get_or, take, sum_by, filter, sym, refl, ap, ◌∙◌, add-one, arith, ltb-false, ltb-true, lt-ltb}
 use Rattle.std.proofs.lemmas.List.{length-map}
 use Rattle.std.proofs.lemmas.List.Sums.{sum_by-cons, length-filter, count_by-le-length, sum_by_more}
 use Rattle.std.specs.List.{range_with_len}
 use Rattle.chains.specs.Asks.{without_all, saturated}
 use Rattle.chains.specs.Lists.{changed}
-use Rattle.terms.proofs.Tables.{mixed}
 use Rattle.terms.specs.Tables.{any_of}
 use Rattle.terms.specs.declared.entries.Entry.{Entry}
 use Rattle.market.specs.Book as book
@@ -27,11 +26,6 @@ kept_map f p (x ∷ xs) =
 swapped : {A : Type 0} (b : Bool) (x y : A) → cond b x y ≡ cond (not b) y x
 swapped true x y = refl
 swapped false x y = refl
-
--- what was put where there was room for it
-pub was_pushed : {E P Q : Type 0} (r : Result (Unit {0}) E) → (IsOk r ↔ P) → OnOk r Q → P → Q
-was_pushed (Ok u) fits pushed p = pushed
-was_pushed (Err e) fits pushed p = mixed _ (sym (fits.1 p))
 
 without_kept : (p : book.Entry → Bool) (es : List book.Entry) → without p es ≡ filter (λ e. not (p e)) es
 without_kept p [] = refl

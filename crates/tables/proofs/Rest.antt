@@ -1,10 +1,10 @@
 -- An entry more: where it is refused, and what it leaves.
-use Rattle.std.proofs.Common.{◌≡◌, ℕ, ◌+◌, ◌<◌, ◌≤◌, Bool, true, false, cond, eqb, leb, List, [], ◌∷◌, ◌++◌, map, length, get_or, set, Some, None, Ok, Err, sum_by, sym, refl, ap, ◌∙◌, subst, ⊎_elim, arith, le-ltb, lt-ltb, le-leb}
+use Rattle.std.proofs.Common.{◌≡◌, ℕ, ◌+◌, ◌<◌, ◌≤◌, Bool, true, false, cond, eqb, leb, List, [], ◌∷◌, ◌++◌, map, length, get_or, set, Some, None, Ok, Err, sym, refl, ap, ◌∙◌, subst, ⊎_elim, arith, le-ltb, lt-ltb, le-leb}
 use borrow.Author.Tests.{lt-leb}
 use Rattle.std.proofs.lemmas.List.{length-map, map-set, map_push, get_or-map}
 use Rattle.std.proofs.lemmas.Bool.{cases_eq, cases_Bool, cond-true, cond-false, and_parts, eqb-true, ne_eqb}
 use Rattle.chains.specs.declared.table.Chains.{Chains}
-use Rattle.chains.specs.Lists.{lists, places, changed, appended}
+use Rattle.chains.specs.Lists.{lists, places, total, changed, appended}
 use Rattle.terms.specs.declared.refusal.Refusal.TheVariants.{InUse, Allotment}
 use Rattle.terms.specs.declared.entries.Entry.{Entry}
 use Rattle.terms.specs.declared.entries.Slip.{Slip}
@@ -66,14 +66,16 @@ pub record More (es es' : Chains Entry 16) (ss : Chains Slip 24) (s : ℕ) (x : 
   pub apart : Apart (seen_entries es')
   pub does : Rested (book_in es ss) s (seen x) (Ok tt) (book_in es' ss)
 
-pub one_more : (es es' : Chains Entry 16) (ss : Chains Slip 24) (k s : ℕ) (x : Entry) → Few (seen_entries es) → Apart (seen_entries es) → 384 ≤ places es → k + 1 ≡ s → k < length (lists es) →
-    counts (is_for (seen x).login (seen x).number) (seen_entries es) ≡ 0 → counts (λ e. eqb e.login (seen x).login) (seen_entries es) < 16 →
-    (sum_by length (lists es) < places es → lists es' ≡ appended (lists es) k x) → More es es' ss s x
-one_more es es' ss k s x few apart room e kl z lt pushed =
-    let left = room_left 24 (λ e. e.login.high) (lists es) x.login.value few x.login.low x.login.high lt in
+-- there is a place for it
+pub room_for : (es : Chains Entry 16) (x : Entry) → Few (seen_entries es) → 384 ≤ places es → counts (λ e. eqb e.login x.login.value) (seen_entries es) < 16 → total (lists es) < places es
+room_for es x few room lt = omega (arith, room_left 24 (λ e. e.login.high) (lists es) x.login.value few x.login.low x.login.high lt)
+
+pub one_more : (es es' : Chains Entry 16) (ss : Chains Slip 24) (k s : ℕ) (x : Entry) → Few (seen_entries es) → Apart (seen_entries es) → k + 1 ≡ s → k < length (lists es) →
+    counts (is_for (seen x).login (seen x).number) (seen_entries es) ≡ 0 → counts (λ e. eqb e.login (seen x).login) (seen_entries es) < 16 → lists es' ≡ appended (lists es) k x → More es es' ss s x
+one_more es es' ss k s x few apart e kl z lt el =
     let ess = seen_entries es in
     let kl2 : k < length ess = omega (arith, length-map (lists es) (map seen)) in
-    let now : seen_entries es' ≡ appended ess k (seen x) = ap (map (map seen)) (pushed (omega (arith, left, room))) ∙ appended_seen seen (lists es) k x kl in
+    let now : seen_entries es' ≡ appended ess k (seen x) = ap (map (map seen)) el ∙ appended_seen seen (lists es) k x kl in
     let P : List (List book.Entry) → Type 0 = Few in
     let Q : List (List book.Entry) → Type 0 = Apart in
     let b = book_in es ss in

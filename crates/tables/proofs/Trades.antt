@@ -227,18 +227,17 @@ pub record Handed (es : Chains Entry 16) (ss ss' : Chains Slip 24) (login : ℕ)
   pub given : book_in es ss' ≡ with_slips_of (book_in es ss) login (waiting_of (book_in es ss) login ++ seen_slip s ∷ [])
   pub more : slip_count (seen_slips ss') ≡ slip_count (seen_slips ss) + 1
 
-pub handed : (es : Chains Entry 16) (ss ss' : Chains Slip 24) (k login : ℕ) (s : Slip) → k + 1 ≡ login → k < length (lists ss) → slip_count (seen_slips ss) < places ss →
-    (sum_by length (lists ss) < places ss → lists ss' ≡ appended (lists ss) k s) → places ss' ≡ places ss → Handed es ss ss' login s
-handed es ss ss' k login s e h lt pushed ep =
-    let now = pushed (omega (arith, lt, slip_count_seen (lists ss))) in
+pub handed : (es : Chains Entry 16) (ss ss' : Chains Slip 24) (k login : ℕ) (s : Slip) → k + 1 ≡ login → k < length (lists ss) →
+    lists ss' ≡ appended (lists ss) k s → places ss' ≡ places ss → Handed es ss ss' login s
+handed es ss ss' k login s e h el ep =
     let sss = seen_slips ss in
-    let seen_now : seen_slips ss' ≡ appended sss k (seen_slip s) = ap (map (map seen_slip)) now ∙ appended_seen seen_slip (lists ss) k s h in
+    let seen_now : seen_slips ss' ≡ appended sss k (seen_slip s) = ap (map (map seen_slip)) el ∙ appended_seen seen_slip (lists ss) k s h in
     let b = book_in es ss in
     let after = with_slips_of b login (waiting_of b login ++ seen_slip s ∷ []) in
     let named : after.slips ≡ appended sss k (seen_slip s) = put_place sss k login _ e ∙ ap (λ v. set sss k (v ++ seen_slip s ∷ [])) (at_place [] sss k login e) in
     record {
       given = same_book (book_in es ss') after refl (seen_now ∙ sym named) ep;
-      more = omega (arith, slip_count_seen (lists ss), slip_count_seen (lists ss'), ap (λ v. sum_by length v) now, total_appended (lists ss) k s h);
+      more = omega (arith, slip_count_seen (lists ss), slip_count_seen (lists ss'), ap (λ v. sum_by length v) el, total_appended (lists ss) k s h);
     }
 
 -- ---- room for two slips
@@ -249,9 +248,6 @@ room_test t r e =
     (λ l. le-leb 2 r l ∙ sym (ap not (le-ltb _ _ (omega (arith, slips_counted t))))) (cases_lt r 2)
 
 -- ---- one side of a trade
-
-pub same_count : (t u : Tables) → t.slips ≡ u.slips → slip_count (slips_of t) ≡ slip_count (slips_of u)
-same_count t u e = ap (λ v. slip_count (map (map seen_slip) (lists v))) e
 
 pub side_done : (t u v : Tables) (f : Fill) → resting_of u ≡ map (filled_in f) (resting_of t) → u.slips ≡ t.slips →
     book_of v ≡ with_slips_of (book_of u) f.login (waiting_of (book_of u) f.login ++ slip_of f ∷ []) → book_of v ≡ side_traded f (book_of t)

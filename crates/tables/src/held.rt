@@ -1,10 +1,10 @@
 //! What a market does to its two tables, but for a strike.
 
-ghost use Rattle.std.specs.Prelude.{◌≡◌, ◌-◌, ◌≤◌, map, length, IfOk};
+ghost use Rattle.std.specs.Prelude.{◌≡◌, ◌-◌, ◌<◌, ◌≤◌, map, length, IfOk};
 ghost use Rattle.terms.specs.Kinds.{reach_number};
 ghost use Rattle.market.specs.Book.{empty as empty_book};
 ghost use Rattle.chains.specs.Asks.{without_all, saturated};
-ghost use Rattle.chains.specs.Lists.{lists, places as places_of};
+ghost use Rattle.chains.specs.Lists.{lists, places as places_of, total, appended};
 ghost use Rattle.market.specs.Market.{Rested, Withdrawn, Swept, Shown, Dropped, Bare};
 ghost use Rattle.market.specs.Seen.{seen, seen_oldest};
 ghost use Rattle.tables.specs.Held.{book_of, LongEnough, Asked};
@@ -24,6 +24,16 @@ const ENTRY_SLOTS: usize = 385;
 /// Slots for 64 slips at least, and one that is not used.
 const SLIP_SLOTS: usize = 65;
 
+/// Puts an item at the end of a chain, where there is a place for it.
+pub(crate) fn append<T: Copy, const N: usize>(chains: &mut Chains<'_, T, N>, k: usize, item: T)
+    requires chain { k < N }
+    requires room { total (lists chains.old) < places_of chains.old }
+    ensures appended { lists chains.new ≡ appended (lists chains.old) k item }
+    ensures places { places_of chains.new ≡ places_of chains.old }
+{
+    let _ = chains.push_back(k, item);
+}
+
 /// Takes off every entry that meets the test, and gives their contracts; the largest u64 stands for all above it.
 fn take_off<P: Test<Entry>>(entries: &mut Chains<'_, Entry, 16>, test: &P) -> u64
     ensures sum { result ≡ saturated (weighed (λ e. e.contracts.value) (P.Test.meets test.now) (lists entries.old)) }
@@ -32,6 +42,7 @@ fn take_off<P: Test<Entry>>(entries: &mut Chains<'_, Entry, 16>, test: &P) -> u6
 {
     entries.facts();
     let mut sum: u64 = 0;
+    // A loop: of a closure that changes the chains a proof learns nothing.
     for k in 0..16 {
         sum = sum.saturating_add(entries.remove_all(k, test, &Left));
     }
@@ -65,7 +76,7 @@ impl<'a> Tables<'a> {
             return Err(Refusal::Allotment);
         }
         self.entries.facts();
-        let _ = self.entries.push_back(series.index(), entry);
+        append(&mut self.entries, series.index(), entry);
         Ok(())
     }
 
@@ -106,6 +117,7 @@ impl<'a> Tables<'a> {
     }
 
     /// Whether nothing rests and nothing waits.
+    #[tactic(auto, using(crate::proofs::Slips::bare_slips, crate::proofs::Slips::bare_entries))]
     pub fn is_bare(&self) -> bool
         ensures { Bare (book_of self.now) result }
     {

@@ -11,6 +11,7 @@ ghost use Rattle.tables.specs.Cross.{on_side, best_on, crossing_at, lowest, seen
 ghost use Rattle.tables.specs.Held.{book_of, resting_of, series_of, slips_of};
 
 use crate::cross::Crossing;
+use crate::held::append;
 use crate::picks::{Best, Either, IsFor, Names, OnSide};
 use crate::state::Tables;
 use chains::Test;
@@ -28,6 +29,7 @@ impl<'a> Tables<'a> {
     }
 
     /// The best buy and the best sell of the series of a number, if there is one and they cross.
+    #[tactic(auto, using(crate::proofs::Meeting::no_series, crate::proofs::Meeting::pair_past))]
     fn crossing_in(&self, number: u64) -> Option<Crossing>
         ensures { option_map seen_crossing result ≡ crossing_at (resting_of self.now) number }
     {
@@ -83,6 +85,7 @@ impl<'a> Tables<'a> {
     }
 
     /// Whether two slip places are free.
+    #[tactic(auto, using(crate::proofs::Trades::room_test))]
     pub fn slips_fit(&self) -> bool
         ensures { result ≡ not (slips_full (book_of self.now)) }
     {
@@ -123,7 +126,7 @@ impl<'a> Tables<'a> {
         ensures more { slip_count (slips_of self.new) ≡ slip_count (slips_of self.old) + 1 }
     {
         self.slips.facts();
-        let _ = self.slips.push_back(login.index(), slip);
+        append(&mut self.slips, login.index(), slip);
     }
 
     /// One side of a trade: its entry is filled, and its login gets a slip.
@@ -170,7 +173,7 @@ impl<'a> Tables<'a> {
     }
 }
 
-/// Who has an entry, and under which number.
+/// Who has an entry, and under which number. A function, since neither type is of this crate, whose own `From` it could be.
 fn party(entry: Entry) -> Party
     ensures { result ≡ record { login = entry.login.value; number = entry.number.value } }
 {

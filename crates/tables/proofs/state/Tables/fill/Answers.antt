@@ -1,5 +1,5 @@
 -- What is left goes into the entry's place, or the entry goes.
-use Rattle.std.proofs.Common.{◌≡◌, ◌-◌, [], ◌∷◌, sym, ap, ◌∙◌, arith}
+use Rattle.std.proofs.Common.{◌≡◌, ◌-◌, [], ◌∷◌, sym, refl, ap, ◌∙◌, arith}
 use Rattle.terms.specs.declared.entries.Entry.{Entry}
 use Rattle.market.specs.Seen.{seen}
 use Rattle.tables.proofs.Trades.{Filled, filled, some_left, none_left, same_less}
@@ -38,20 +38,8 @@ invariant_of-self-in-Err-clause-few c = (none c).few
 pub invariant_of-self-in-Err-clause-apart : goal.invariant_of-self-in-Err-clause-apart
 invariant_of-self-in-Err-clause-apart c = (none c).apart
 
-pub returns-in-Ok-clause-filled : goal.returns-in-Ok-clause-filled
-returns-in-Ok-clause-filled c = (some (goal.at.returns-in-Ok-clause-filled c).After-replace_first).filled
+pub returns-in-Ok : goal.returns-in-Ok
+returns-in-Ok c = let d = some (goal.at.returns-in-Ok c).After-replace_first in record { filled = d.filled; slips = refl; own = d.own; others = d.others }
 
-pub returns-in-Ok-clause-own : goal.returns-in-Ok-clause-own
-returns-in-Ok-clause-own c = (some (goal.at.returns-in-Ok-clause-own c).After-replace_first).own
-
-pub returns-in-Ok-clause-others : goal.returns-in-Ok-clause-others
-returns-in-Ok-clause-others c = (some (goal.at.returns-in-Ok-clause-others c).After-replace_first).others
-
-pub returns-in-Err-clause-filled : goal.returns-in-Err-clause-filled
-returns-in-Err-clause-filled c = (none (goal.at.returns-in-Err-clause-filled c).After-remove_first).filled
-
-pub returns-in-Err-clause-own : goal.returns-in-Err-clause-own
-returns-in-Err-clause-own c = (none (goal.at.returns-in-Err-clause-own c).After-remove_first).own
-
-pub returns-in-Err-clause-others : goal.returns-in-Err-clause-others
-returns-in-Err-clause-others c = (none (goal.at.returns-in-Err-clause-others c).After-remove_first).others
+pub returns-in-Err : goal.returns-in-Err
+returns-in-Err c = let d = none (goal.at.returns-in-Err c).After-remove_first in record { filled = d.filled; slips = refl; own = d.own; others = d.others }

@@ -4,10 +4,10 @@ use Rattle.chains.specs.Lists.{lists}
 use Rattle.market.specs.Book.{is_for}
 use Rattle.market.specs.Seen.{seen}
 use Rattle.tables.specs.Held.{book_of}
-use Rattle.tables.proofs.Listed.{counts_seen, was_pushed}
-use Rattle.tables.proofs.Rest.{More, in_use, at_16, one_more}
+use Rattle.tables.proofs.Listed.{counts_seen}
+use Rattle.tables.proofs.Rest.{More, in_use, at_16, room_for, one_more}
 use Rattle.tables.proofs.state.Tables.rest.Goals as goal
-use Rattle.tables.proofs.state.Tables.rest.Goals.{After-push_back}
+use Rattle.tables.proofs.state.Tables.rest.Goals.{After-append}
 
 pub returns-then-used-gt0 : goal.returns-then-used-gt0
 returns-then-used-gt0 c =
@@ -23,15 +23,23 @@ returns-then-resting-ge-ALLOTMENT c =
     at_16 (book_of c.args.self.now) c.args.series.value (seen x) (omega (arith, n, c.count_of-used.ensures, c.if-used-gt0.false))
     (omega (arith, m, c.count_of-resting.ensures, c.if-resting-ge-ALLOTMENT.true))
 
-more : (c : goal.After-push_back) → More c.args.self.now.entries c.push_back.new.self c.args.self.now.slips c.args.series.value c.args.entry
+pub append-requires : goal.append-requires
+append-requires c =
+    let t = c.args.self.now in
+    let x = c.args.entry in
+    let m = counts_seen (λ e. eqb e.login x.login.value) (lists t.entries) in
+    let room = room_for t.entries x t.few t.room (omega (arith, m, c.count_of-resting.ensures, c.if-resting-ge-ALLOTMENT.false)) in
+    (omega arith, (omega (arith, c.index.ensures.bound), room))
+
+more : (c : goal.After-append) → More c.args.self.now.entries c.append.new.chains c.args.self.now.slips c.args.series.value c.args.entry
 more c =
     let t = c.args.self.now in
     let x = c.args.entry in
     let n = counts_seen (is_for x.login.value x.number.value) (lists t.entries) in
     let m = counts_seen (λ e. eqb e.login x.login.value) (lists t.entries) in
-    one_more t.entries c.push_back.new.self t.slips c.index.result c.args.series.value x t.few t.apart t.room c.index.ensures.place
+    one_more t.entries c.append.new.chains t.slips c.index.result c.args.series.value x t.few t.apart c.index.ensures.place
     (omega (arith, c.facts.ensures.count, c.index.ensures.bound)) (omega (arith, n, c.count_of-used.ensures, c.if-used-gt0.false))
-    (omega (arith, m, c.count_of-resting.ensures, c.if-resting-ge-ALLOTMENT.false)) (was_pushed c.push_back.result c.push_back.ensures.fits c.push_back.ensures.pushed)
+    (omega (arith, m, c.count_of-resting.ensures, c.if-resting-ge-ALLOTMENT.false)) c.append.ensures.appended
 
 pub invariant_of-self-clause-few : goal.invariant_of-self-clause-few
 invariant_of-self-clause-few c = (more c).few
@@ -40,4 +48,4 @@ pub invariant_of-self-clause-apart : goal.invariant_of-self-clause-apart
 invariant_of-self-clause-apart c = (more c).apart
 
 pub returns : goal.returns
-returns c = (more (goal.at.returns c).After-push_back).does
+returns c = (more (goal.at.returns c).After-append).does

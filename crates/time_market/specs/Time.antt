@@ -1,12 +1,13 @@
 -- What a strike by price, then time, answers exactly, and the laws that a trade keeps to. Assumes nothing.
-use Rattle.std.specs.Prelude.{◌≡◌, ℕ, ◌<◌, ◌≤◌, min, Bool, false, cond, List, [], length, Some, None, Ok, Err, filter, Option, Result, slice_index_or}
+use Rattle.std.specs.Prelude.{◌≡◌, ℕ, ◌<◌, ◌≤◌, min, false, cond, List, [], length, Some, None, Ok, Err, filter, Option, Result, slice_index_or}
 use Rattle.terms.specs.declared.events.Trade.{Trade}
 use Rattle.terms.specs.declared.refusal.Refusal.{Refusal}
 use Rattle.terms.specs.declared.refusal.Refusal.TheVariants.{SlipsFull}
-use Rattle.terms.specs.Tables.{any_of}
 use Rattle.chains.specs.Asks.{Leads}
 use Rattle.market.specs.Book.{Entry, Book}
-use Rattle.market.specs.Market.{cross, slips_full}
+use Rattle.market.specs.Market.{slips_full}
+-- a series that crosses
+pub use Rattle.tables.specs.Cross.{crosses_in}
 use Rattle.tables.specs.Cross.{on_side, dearer, cheaper, Pair, Crossing, lowest, before, trade_of}
 
 -- the price of the older of the two
@@ -24,10 +25,6 @@ answer_at b (Some x) = cond (slips_full b) (Err SlipsFull) (Ok (Some (trade_in (
 -- none where nothing crosses, 33 where fewer than two slip places are free, else the trade
 abbrev pub time_answer : Book → Result (Option Trade) Refusal
 time_answer b = answer_at b (lowest b.resting)
-
--- a series that crosses
-abbrev pub crosses_in : List Entry → Bool
-crosses_in es = any_of (λ buy. any_of (λ sell. cross buy sell) es) es
 
 -- ---- laws of a trade
 

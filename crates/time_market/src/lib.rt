@@ -3,7 +3,5 @@
 #![tactic(auto)]
 
 mod by_time;
-mod state;
-mod strikes;
 
-pub use state::TimeMarket;
+pub use by_time::TimeMarket;

@@ -1,5 +1,5 @@
 -- A taker and a maker of its round as a buy and a sell that may trade.
-use Rattle.std.proofs.Common.{◌≡◌, ℕ, ◌<◌, ◌≤◌, true, eqb, List, [], length, get_or, Some, None, Option, sym, refl, ◌∙◌, arith, le-leb}
+use Rattle.std.proofs.Common.{◌≡◌, ℕ, ◌-◌, ◌<◌, ◌≤◌, true, eqb, List, [], length, get_or, Some, None, Option, sym, refl, ◌∙◌, arith, le-leb}
 use Rattle.std.proofs.lemmas.Bool.{cond-true, cond-false, and_parts, and_from, eqb-true, eq-eqb, ne_eqb, leb-true}
 use Rattle.chains.specs.Asks.{oldest}
 use Rattle.terms.specs.Tables.{any_of}
@@ -10,7 +10,7 @@ use Rattle.market.specs.Book.{Entry, Book}
 use Rattle.market.specs.Market.{cross, crosses}
 use Rattle.market.specs.Seen.{seen}
 use Rattle.tables.specs.Cross.{on_side, at_price, names, trade_of, Stands, Meet, Fair}
-use Rattle.tables.specs.Held.{Apart}
+use Rattle.tables.specs.Kept.{Apart}
 use Rattle.tables.proofs.Crossings.{picked_stands, found_stands}
 use Rattle.tables.proofs.Pairs.{stands_any, any_at}
 use Rattle.size_market.specs.declared.round.Round.{Round}
@@ -41,14 +41,14 @@ pub record Known (es : List Entry) (at : ℕ) (taker maker : Entry) : Type 0 whe
   pub side : maker.side ≡ other_side taker.side
   pub price : maker.price ≡ at
 
-pub known : (ess : List (List Entry)) (r : Round) (m : Entry) → Apart ess → length ess ≡ 16 → Going ess r → oldest (ahead ess r) ≡ Some m → Known (get_or ess r.series []) r.price.value (seen r.taker) m
+pub known : (ess : List (List Entry)) (r : Round) (m : Entry) → Apart ess → length ess ≡ 16 → Going ess r → oldest (ahead ess r) ≡ Some m → Known (get_or ess (r.series.value - 1) []) r.price.value (seen r.taker) m
 known ess r m apart sixteen g o =
-    let h : r.series < length ess = omega (arith, sixteen, g.series) in
+    let h : r.series.value - 1 < length ess = omega (arith, sixteen, r.series.high) in
     let q = at_price (other_side (seen r.taker).side) r.price.value in
-    let p = picked_stands q ess r.series r.passed m apart h o in
+    let p = picked_stands q ess (r.series.value - 1) r.passed m apart h o in
     let w = and_parts (eqb m.side (other_side (seen r.taker).side)) (eqb m.price r.price.value) p.1 in
     record {
-      taker_stands = found_stands ess r.series (seen r.taker) apart h g.stands;
+      taker_stands = found_stands ess (r.series.value - 1) (seen r.taker) apart h g.stands;
       maker_stands = p.0;
       limit = g.limit;
       side = eqb-true m.side (other_side (seen r.taker).side) w.0;
@@ -87,8 +87,8 @@ going_crosses b r apart sixteen g = go (oldest (ahead b.resting r)) refl
     go : (o : Option Entry) → oldest (ahead b.resting r) ≡ o → crosses b ≡ true
     go None e = absurd (some_ahead b.resting r g (sym e))
     go (Some m) e =
-        faces_cross b r.series (buyer r.taker.side (seen r.taker) m) (seller r.taker.side (seen r.taker) m) r.price.value (omega (arith, sixteen, g.series))
-        (faces r.taker.side (get_or b.resting r.series []) r.price.value (seen r.taker) m refl (known b.resting r m apart sixteen g e))
+        faces_cross b (r.series.value - 1) (buyer r.taker.side (seen r.taker) m) (seller r.taker.side (seen r.taker) m) r.price.value (omega (arith, sixteen, r.series.high))
+        (faces r.taker.side (get_or b.resting (r.series.value - 1) []) r.price.value (seen r.taker) m refl (known b.resting r m apart sixteen g e))
 
 -- ---- the trade of the two
 

@@ -36,7 +36,7 @@ left_after ess d =
 -- the trade left its series
 abbrev pub LeavesRound : (ess after : List (List Entry)) → Due → Type 0
 LeavesRound ess after d =
-    Leaves (get_or ess d.round.series []) (get_or after d.round.series []) (seen d.round.taker) (seen d.maker) d.round.price.value d.share.value d.round.passed
+    Leaves (get_or ess (d.round.series.value - 1) []) (get_or after (d.round.series.value - 1) []) (seen d.round.taker) (seen d.maker) d.round.price.value d.share.value d.round.passed
 
 one_at_most : (b : Bool) → cond b 1 0 ≤ 1
 one_at_most true = omega arith
@@ -53,22 +53,21 @@ follows ess after d (Some r) g oldest-is e l f =
     let T = seen d.round.taker in
     let M = seen d.maker in
     let n = d.share.value in
-    let k = d.round.series in
+    let k = d.round.series.value - 1 in
     let p = d.round.passed in
     let price = d.round.price.value in
     let ms = makers_of ess d.round in
     let a = first_ahead ess d.round M g oldest-is in
     let part = parted ms p M oldest-is in
     let moved : ahead after r ≡ drop (p + cond (ltb n M.contracts) 1 0) (makers_at (less n T) price (get_or after k [])) =
-    λ i. drop (f.passed i) (makers_at (f.taker i) (f.price i).value (get_or after (f.series i) [])) in
+    λ i. drop (f.passed i) (makers_at (f.taker i) (f.price i).value (get_or after ((f.series i).value - 1) [])) in
     let rest : ahead after r ≡ drop (suc p) ms =
     moved ∙ ap (drop (p + cond (ltb n M.contracts) 1 0)) l.makers ∙ past n M.contracts p M (take p ms) (drop (suc p) ms) refl (omega (arith, e, a.within)) part.front in
     let left : r.left ≡ d.round.left - n = omega (arith, f.left) in
     let stands = stands_found (get_or after k []) (less n T) (l.stands (omega (arith, f.left, f.some, g.taken))) in
     let limit : within price (less n T) ≡ true = g.limit in (
       record {
-        series = omega (arith, f.series, g.series);
-        stands = (λ i. any_of (same (f.taker i)) (get_or after (f.series i) [])) ∙ stands;
+        stands = (λ i. any_of (same (f.taker i)) (get_or after ((f.series i).value - 1) [])) ∙ stands;
         limit = (λ i. within (f.price i).value (f.taker i)) ∙ limit;
         some = f.some;
         taken = omega (arith, left, g.taken, ap (λ v. v.contracts) f.taker);

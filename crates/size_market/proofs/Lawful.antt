@@ -1,24 +1,19 @@
 -- What holds of every trade, and of a round that opens.
-use Rattle.std.proofs.Common.{◌≡◌, ℕ, ◌≤◌, Bool, true, false, cond, eqb, List, [], ◌∷◌, get_or, Some, None, Option, sym, refl, ap, ◌∙◌, subst, arith}
+use Rattle.std.proofs.Common.{◌≡◌, ℕ, ◌-◌, ◌≤◌, Bool, true, false, cond, eqb, List, [], ◌∷◌, get_or, Some, None, Option, sym, refl, ap, ◌∙◌, subst, arith}
 use Rattle.std.specs.List.{AllByRecursion}
 use Rattle.std.proofs.lemmas.Bool.{cond_both}
 use Rattle.terms.specs.declared.events.Trade.{Trade}
 use Rattle.market.specs.Book.{Entry, Book}
 use Rattle.market.specs.Seen.{seen}
 use Rattle.tables.specs.declared.cross.Crossing as code
-use Rattle.tables.specs.Cross.{on_side, Pair, Crossing, lowest, before, trade_of}
-use Rattle.tables.proofs.Crossings.{no_pair, buy_leads, sell_leads}
+use Rattle.tables.specs.Cross.{on_side, Pair, Crossing, lowest, trade_of}
+use Rattle.tables.proofs.Crossings.{At, found_at, older_fair, no_pair, buy_leads, sell_leads}
 use Rattle.shares.specs.Shares.{sum_of, shares}
 use Rattle.shares.proofs.Laws.{shares_within}
 use Rattle.size_market.specs.declared.round.Due.{Due}
 use Rattle.size_market.specs.Size.{older, younger, makers_at, trade_with, sizes, given, amount, opening, opened_by, due, Opens, BySizeOf}
 use Rattle.size_market.proofs.Dealing.{dealt_amounts, dealt_sum}
-use Rattle.size_market.proofs.Opening.{At, found_at}
 use Rattle.size_market.proofs.Striking.{Ready}
-
-older_fair : (es : List Entry) (p : Pair) → p.sell.price ≤ p.buy.price → (p.sell.price ≤ (older es p).price) × ((older es p).price ≤ p.buy.price)
-older_fair es p h =
-    cond_both (before p.buy p.sell es) p.buy p.sell (λ v. (p.sell.price ≤ v.price) × (v.price ≤ p.buy.price)) (λ _. (h, omega arith)) (λ _. (omega arith, h))
 
 -- a taker's trades are all at the makers' price
 with_price : (taker : Entry) (price : ℕ) (m : Entry) (n : ℕ) → (trade_with taker price m n).price ≡ price
@@ -74,7 +69,7 @@ by_size b round ts d x t r e first =
     let buy = seen x.buy in
     let sell = seen x.sell in
     record {
-      series = x.series;
+      series = x.series.value - 1;
       pair = record { buy = buy; sell = sell };
       meet = r.meet;
       fair = record { some = omega (arith, n, r.fair.some); bought = omega (arith, n, r.fair.bought); sold = omega (arith, n, r.fair.sold); low = omega (arith, p, r.fair.low); high = omega (arith, p, r.fair.high) };

@@ -1,13 +1,14 @@
 -- The round that a strike trades in: one that is open goes on, and else the lowest series that crosses opens one.
-use Rattle.std.proofs.Common.{◌≡◌, ℕ, ◌+◌, ◌<◌, ◌≤◌, min, Bool, true, false, cond, List, [], ◌∷◌, length, get_or, Some, None, filter, Option, sym, refl, ap, ◌∙◌, subst, arith, le-leb}
+use Rattle.std.proofs.Common.{◌≡◌, ℕ, ◌+◌, ◌-◌, ◌<◌, ◌≤◌, min, Bool, true, false, cond, List, [], ◌∷◌, length, get_or, Some, None, filter, Option, sym, refl, ap, ◌∙◌, subst, arith, le-leb}
 use Rattle.std.proofs.lemmas.Bool.{cond-true, cond-false, eq-eqb, ne_eqb}
+use Rattle.terms.specs.declared.bounded.Bounded.{Bounded}
 use Rattle.terms.specs.declared.entries.Entry as code
 use Rattle.terms.specs.declared.events.Trade.{Trade}
 use Rattle.market.specs.Book.{Entry, Book, total}
 use Rattle.market.specs.Seen.{seen}
-use Rattle.tables.specs.Cross.{on_side, at_price, Pair, pair_in, lowest, before, Stands}
-use Rattle.tables.specs.Held.{Apart}
-use Rattle.tables.proofs.Crossings.{Paired, pair_parts, pair_meets, pair_weighs, lowest_is, nothing_crosses, stands_found}
+use Rattle.tables.specs.Cross.{on_side, at_price, Pair, lowest, before, Stands}
+use Rattle.tables.specs.Kept.{Apart}
+use Rattle.tables.proofs.Crossings.{Paired, found_at, pair_meets, pair_weighs, nothing_crosses, stands_found}
 use Rattle.shares.specs.Shares.{sum_of}
 use Rattle.size_market.specs.declared.round.Round.{Round}
 use Rattle.size_market.specs.Size.{older, younger, other_side, makers_at, trade_with, sizes, dealt, amount, opened_by, due}
@@ -31,20 +32,6 @@ pub none_opens : (b : Book) → None ≡ lowest b.resting → Current b [] None
 none_opens b e = (nothing_crosses 0 b.resting (sym e), ap (opened_by b) (sym e))
 
 -- ---- a pair that crosses
-
-pub record At (b : Book) (k : ℕ) (p : Pair) : Type 0 where
-  pub below : k < length b.resting
-  pub paired : Paired (get_or b.resting k []) p
-  pub lower : (j : ℕ) → j < k → pair_in (get_or b.resting j []) ≡ None
-
-pub found_at : (b : Book) (k : ℕ) (p : Pair) → Some (record { series = k; pair = p }) ≡ lowest b.resting → At b k p
-found_at b k p e =
-    let w = lowest_is 0 b.resting (record { series = k; pair = p }) (sym e) in
-    let s : w.place ≡ k = omega (arith, w.is) in
-    let P : ℕ → Type 0 = λ v. v < length b.resting in
-    let Q : ℕ → Type 0 = λ v. pair_in (get_or b.resting v []) ≡ Some p in
-    let R : ℕ → Type 0 = λ v. (j : ℕ) → j < v → pair_in (get_or b.resting j []) ≡ None in
-    record { below = subst P s w.below; paired = pair_parts (get_or b.resting k []) p (subst Q s w.pair); lower = subst R s w.lower }
 
 -- the younger stands, the older's price is within its limit, and the older is one of the makers
 pub record Aged (es : List Entry) (taker maker : Entry) : Type 0 where
@@ -85,11 +72,12 @@ total_sizes q (e ∷ es) = go (q e) (total_sizes q es)
     go true h = omega (arith, h)
     go false h = omega (arith, h)
 
-pub opens : (b : Book) (k : ℕ) (p : Pair) (taker maker : code.Entry) (side left rest : ℕ) → Apart b.resting → length b.resting ≡ 16 → Some (record { series = k; pair = p }) ≡ lowest b.resting →
-    seen taker ≡ younger (get_or b.resting k []) p → seen maker ≡ older (get_or b.resting k []) p → side ≡ other_side (seen taker).side →
-    rest ≡ total (at_price side maker.price.value) (get_or b.resting k []) → rest ≤ 25165440 → left ≡ min taker.contracts.value rest →
-    Current b [] (Some (record { series = k; taker = taker; price = maker.price; left = left; passed = 0; rest = rest }))
-opens b k p taker maker side left rest apart sixteen e et em eside er bound el =
+pub opens : (b : Book) (series : Bounded 1 16) (p : Pair) (taker maker : code.Entry) (side left rest : ℕ) → Apart b.resting → Some (record { series = series.value - 1; pair = p }) ≡ lowest b.resting →
+    seen taker ≡ younger (get_or b.resting (series.value - 1) []) p → seen maker ≡ older (get_or b.resting (series.value - 1) []) p → side ≡ other_side (seen taker).side →
+    rest ≡ total (at_price side maker.price.value) (get_or b.resting (series.value - 1) []) → rest ≤ 25165440 → left ≡ min taker.contracts.value rest →
+    Current b [] (Some (record { series = series; taker = taker; price = maker.price; left = left; passed = 0; rest = rest }))
+opens b series p taker maker side left rest apart e et em eside er bound el =
+    let k = series.value - 1 in
     let w = found_at b k p e in
     let es = get_or b.resting k [] in
     let a = aged b.resting k p apart w.below w.paired in
@@ -101,7 +89,6 @@ opens b k p taker maker side left rest apart sixteen e et em eside er bound el =
     let much : left ≡ amount (seen taker) ms = el ∙ ap (min taker.contracts.value) sum in
     let F : Entry → ℕ → List Trade = λ t price. dealt (trade_with t price) (amount t (makers_at t price es)) (makers_at t price es) in (
       record {
-        series = omega (arith, w.below, sixteen);
         stands = stands_found es (seen taker) d.stands;
         limit = d.limit;
         some = omega (arith, el, taker.contracts.low, maker.contracts.low, d.weighs, er, ap (λ s. total (at_price s maker.price.value) es) eside);

@@ -59,7 +59,6 @@ one_passed ess r m low g o z =
     let next = r.passed + 1 in
     let rest : drop (suc r.passed) (makers_of ess r) ≡ drop next (makers_of ess r) = ap (λ n. drop n (makers_of ess r)) (sym (add-one r.passed)) in (
       record {
-        series = g.series;
         stands = g.stands;
         limit = g.limit;
         some = g.some;
@@ -84,8 +83,8 @@ moved_on ess r passed rest n m low h o z e =
 
 -- the maker that the tables give is the first ahead
 pub found_ahead : (ess : List (List Entry)) (r : Round) (side : ℕ) (m : Entry) → side ≡ other_side (seen r.taker).side →
-    Some m ≡ oldest (drop r.passed (filter (at_price side r.price.value) (get_or ess r.series []))) → oldest (ahead ess r) ≡ Some m
-found_ahead ess r side m e o = sym (o ∙ ap (λ s. oldest (drop r.passed (filter (at_price s r.price.value) (get_or ess r.series [])))) e)
+    Some m ≡ oldest (drop r.passed (filter (at_price side r.price.value) (get_or ess (r.series.value - 1) []))) → oldest (ahead ess r) ≡ Some m
+found_ahead ess r side m e o = sym (o ∙ ap (λ s. oldest (drop r.passed (filter (at_price s r.price.value) (get_or ess (r.series.value - 1) [])))) e)
 
 -- a share that is no number of contracts is 0
 pub no_share : (n c : ℕ) → (1 ≤ n → n ≤ 65535 → ⊥) → n ≤ c → c ≤ 65535 → n ≡ 0

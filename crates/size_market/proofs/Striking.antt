@@ -1,5 +1,5 @@
 -- A strike by size: what each answer shows, and what is left of the round.
-use Rattle.std.proofs.Common.{◌≡◌, ℕ, suc, ◌<◌, ◌≤◌, Bool, true, false, cond, List, [], ◌∷◌, map, length, get_or, drop, Some, Ok, Err, Option, Result, sym, refl, ap, ◌∙◌, subst, arith}
+use Rattle.std.proofs.Common.{◌≡◌, ℕ, suc, ◌-◌, ◌<◌, ◌≤◌, Bool, true, false, cond, List, [], ◌∷◌, map, length, get_or, drop, Some, Ok, Err, Option, Result, sym, refl, ap, ◌∙◌, subst, arith}
 use Rattle.std.proofs.lemmas.List.{get_or-map, length-map}
 use Rattle.std.proofs.lemmas.Bool.{and_parts}
 use Rattle.terms.specs.Kinds.{side_number}
@@ -13,7 +13,7 @@ use Rattle.market.specs.Market.{slips_full, filled_in, buy_side, sell_side, trad
 use Rattle.market.specs.Seen.{seen}
 use Rattle.tables.specs.declared.cross.Crossing.{Crossing}
 use Rattle.tables.specs.Cross.{names, trade_of, Meet, Fair}
-use Rattle.tables.specs.Held.{Apart}
+use Rattle.tables.specs.Kept.{Apart}
 use Rattle.tables.proofs.Books.{counts_narrower}
 use Rattle.tables.proofs.Crossings.{count_at}
 use Rattle.shares.specs.Shares.{sum_of, share}
@@ -55,8 +55,7 @@ no_room b round r apart sixteen c full =
 
 -- what a trade of the crossing asks
 pub record Ready (ess : List (List Entry)) (d : Due) (x : Crossing) : Type 0 where
-  pub series : x.series < 16
-  pub meet : Meet (get_or ess x.series []) (seen x.buy) (seen x.sell)
+  pub meet : Meet (get_or ess (x.series.value - 1) []) (seen x.buy) (seen x.sell)
   pub fair : Fair (seen x.buy) (seen x.sell) d.share.value d.round.price.value
 
 pub ready : (ess : List (List Entry)) (r : Round) (d : Due) (x : Crossing) → Apart ess → length ess ≡ 16 → IsDue ess r d → x ≡ crossing_of d → Ready ess d x
@@ -73,8 +72,8 @@ ready ess r d x apart sixteen i e =
     a : Ahead ess d.round M
     a = first_ahead ess d.round M i.going i.maker
 
-    f : (side : Side) → T.side ≡ side_number side → Faces (get_or ess d.round.series []) (buyer side T M) (seller side T M) d.round.price.value
-    f side e = faces side (get_or ess d.round.series []) d.round.price.value T M e (known ess d.round M apart sixteen i.going i.maker)
+    f : (side : Side) → T.side ≡ side_number side → Faces (get_or ess (d.round.series.value - 1) []) (buyer side T M) (seller side T M) d.round.price.value
+    f side e = faces side (get_or ess (d.round.series.value - 1) []) d.round.price.value T M e (known ess d.round M apart sixteen i.going i.maker)
 
     of_taker : d.share.value ≤ d.round.taker.contracts.value
     of_taker = omega (arith, i.share, a.left, i.going.taken)
@@ -83,8 +82,8 @@ ready ess r d x apart sixteen i e =
     of_maker = omega (arith, i.share, a.within)
 
     by_side : (side : Side) → T.side ≡ side_number side → Ready ess d (facing side d)
-    by_side Buy e = record { series = i.going.series; meet = (f Buy e).meet; fair = faces_fair _ T M d.share.value d.round.price.value (f Buy e) d.share.low of_taker of_maker }
-    by_side Sell e = record { series = i.going.series; meet = (f Sell e).meet; fair = faces_fair _ M T d.share.value d.round.price.value (f Sell e) d.share.low of_maker of_taker }
+    by_side Buy e = record { meet = (f Buy e).meet; fair = faces_fair _ T M d.share.value d.round.price.value (f Buy e) d.share.low of_taker of_maker }
+    by_side Sell e = record { meet = (f Sell e).meet; fair = faces_fair _ M T d.share.value d.round.price.value (f Sell e) d.share.low of_maker of_taker }
 
 -- the series that was traded in
 pub traded_at : (b a : Book) (k : ℕ) (buy sell : Entry) (n price : ℕ) (t : Trade) → k < length b.resting → t ≡ trade_of buy sell n price → a ≡ traded t b → get_or a.resting k [] ≡ both buy sell n price (get_or b.resting k [])
@@ -112,7 +111,7 @@ made b a r d x t apart sixteen i ex et ea =
     M = seen d.maker
 
     k : ℕ
-    k = d.round.series
+    k = d.round.series.value - 1
 
     n : ℕ
     n = d.share.value
@@ -124,7 +123,7 @@ made b a r d x t apart sixteen i ex et ea =
     es = get_or b.resting k []
 
     below : k < length b.resting
-    below = omega (arith, sixteen, i.going.series)
+    below = omega (arith, sixteen, d.round.series.high)
 
     one : count (names M) es ≤ 1
     one =

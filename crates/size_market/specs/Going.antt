@@ -1,5 +1,5 @@
 -- A round as the market keeps it: the trades that it has still to make, and what is always so of it. Assumes nothing.
-use Rattle.std.specs.Prelude.{◌≡◌, ℕ, ◌+◌, ◌<◌, ◌≤◌, Bool, true, cond, List, [], drop, Some, None, Option, nat_le, slice_index_or}
+use Rattle.std.specs.Prelude.{◌≡◌, ℕ, ◌+◌, ◌-◌, ◌<◌, ◌≤◌, Bool, true, cond, List, [], drop, Some, None, Option, nat_le, slice_index_or}
 use Rattle.terms.specs.declared.events.Trade.{Trade}
 use Rattle.terms.specs.Tables.{any_of}
 use Rattle.market.specs.Book.{Entry}
@@ -11,7 +11,7 @@ use Rattle.size_market.specs.Size.{makers_at, sizes, trade_with, dealt}
 
 -- the makers of a round
 abbrev pub makers_of : List (List Entry) → Round → List Entry
-makers_of ess r = makers_at (seen r.taker) r.price.value (slice_index_or ess r.series [])
+makers_of ess r = makers_at (seen r.taker) r.price.value (slice_index_or ess (r.series.value - 1) [])
 
 -- those that were not passed
 abbrev pub ahead : List (List Entry) → Round → List Entry
@@ -31,8 +31,7 @@ within price e = cond (on_side 1 e) (nat_le price e.price) (nat_le e.price price
 
 -- The taker stands, and the price is within its limit. Something is left to give out, which the taker has, and the makers that were not passed have.
 pub record Going (ess : List (List Entry)) (r : Round) : Type 0 where
-  pub series : r.series < 16
-  pub stands : any_of (same (seen r.taker)) (slice_index_or ess r.series []) ≡ true
+  pub stands : any_of (same (seen r.taker)) (slice_index_or ess (r.series.value - 1) []) ≡ true
   pub limit : within r.price.value (seen r.taker) ≡ true
   pub some : 0 < r.left
   pub taken : r.left ≤ r.taker.contracts.value

@@ -8,17 +8,13 @@ use Rattle.terms.specs.declared.refusal.Refusal.TheVariants.{SlipsFull}
 use Rattle.chains.specs.Asks.{Leads}
 use Rattle.market.specs.Book.{Entry, Book}
 use Rattle.market.specs.Market.{slips_full}
-use Rattle.tables.specs.Cross.{on_side, at_price, dearer, cheaper, Pair, Crossing, lowest, crosses_in, before, trade_of, Meet, Fair}
+-- the older and the younger of a buy and a sell
+pub use Rattle.tables.specs.Cross.{older, younger}
+use Rattle.tables.specs.Cross.{on_side, at_price, dearer, cheaper, Pair, Crossing, lowest, crosses_in, trade_of, Meet, Fair}
 use Rattle.shares.specs.Shares.{sum_of, shares}
 use Rattle.shares.specs.Rounds.{pending, opened}
 
 -- ---- who trades, and at what price
-
-abbrev pub older : List Entry → Pair → Entry
-older es p = cond (before p.buy p.sell es) p.buy p.sell
-
-abbrev pub younger : List Entry → Pair → Entry
-younger es p = cond (before p.buy p.sell es) p.sell p.buy
 
 -- the side that a side trades with: 1 is buy, 2 is sell
 abbrev pub other_side : ℕ → ℕ

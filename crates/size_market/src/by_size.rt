@@ -10,14 +10,14 @@ ghost use Rattle.tables.specs.Held.{book_of, LongEnough};
 ghost use Rattle.size_market.specs.Size.{size_answer, round_after, ended_by, Lawful};
 ghost use Rattle.size_market.specs.Meaning.{round_of};
 
-use crate::round::kept;
 use crate::state::SizeMarket;
-use crate::strikes::{current, next_due};
+use crate::strikes::next_due;
 use chains::Slot;
 use market::Market;
 use tables::Tables;
 use terms::{Entry, Login, OrderNumber, Reach, Refusal, Series, Slip, Trade};
 
+// It has no `try_new`, as `TimeMarket` has: the check does not cover a `Result` of a struct that holds a lent slice and, in its round, numbers with ghost fields.
 impl<'a> SizeMarket<'a> {
     /// An empty market over slots that are long enough, which `tables::long_enough` tells. The first slot of each is not used.
     pub fn new(entries: &'a mut [Slot<Entry>], slips: &'a mut [Slot<Slip>]) -> SizeMarket<'a>
@@ -45,7 +45,9 @@ impl<'a> Market for SizeMarket<'a> {
         ensures round { round_of self.new ≡ ended_by result (round_of self.old) }
     {
         let rested = self.tables.rest(series, entry);
-        self.round = kept(self.round, rested.is_ok());
+        if rested.is_ok() {
+            self.round = None;
+        }
         rested
     }
 
@@ -55,7 +57,9 @@ impl<'a> Market for SizeMarket<'a> {
         ensures round { round_of self.new ≡ ended_by result (round_of self.old) }
     {
         let withdrawn = self.tables.withdraw(login, number);
-        self.round = kept(self.round, withdrawn.is_ok());
+        if withdrawn.is_ok() {
+            self.round = None;
+        }
         withdrawn
     }
 
@@ -77,7 +81,7 @@ impl<'a> Market for SizeMarket<'a> {
         ensures lawful { Lawful (book_of self.old.tables) (round_of self.old) result }
         ensures even { Even (book_of self.old.tables) result (book_of self.new.tables) }
     {
-        let Some(round) = current(&self.tables, self.round) else {
+        let Some(round) = self.current() else {
             return Ok(None);
         };
         self.tables.facts();

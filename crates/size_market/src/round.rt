@@ -1,28 +1,21 @@
 //! A round as it stands between two strikes, and the share that it trades next.
 
-ghost use Rattle.std.specs.Prelude.{◌≡◌, ◌+◌, ◌<◌, ◌≤◌, if◌then◌else◌, None};
+ghost use Rattle.std.specs.Prelude.{◌≡◌, ◌+◌, ◌≤◌};
 ghost use Rattle.size_market.specs.Steps.{Next, crossing_of};
 
 use tables::Crossing;
-use terms::{Contracts, Entry, Price, Side};
+use terms::{Contracts, Entry, Price, Series, Side};
 
 /// The taker, with the contracts that it has left; the makers' price; how much is left to give out; how many makers at the price
 /// were passed, and the contracts of those that were not. Shares are not stored: what was passed and what is left give them again.
 #[derive(Clone, Copy)]
 pub struct Round {
-    pub(crate) series: usize,
+    pub(crate) series: Series,
     pub(crate) taker: Entry,
     pub(crate) price: Price,
     pub(crate) left: u64,
     pub(crate) passed: usize,
     pub(crate) rest: u64,
-}
-
-/// What is left of a round by another call, which ends it where it is accepted.
-pub(crate) fn kept(round: Option<Round>, accepted: bool) -> Option<Round>
-    ensures { result ≡ (if accepted then None else round) }
-{
-    if accepted { None } else { round }
 }
 
 /// The maker that trades next, its share, and the round with the makers before it passed.
@@ -63,30 +56,22 @@ impl Due {
         requires bound { self.round.passed + self.round.rest ≤ 25165440 }
         ensures { Next self result }
     {
-        let (round, share) = (self.round, self.share.number());
-        let left = round.left - u64::from(share);
-        let of_taker = round.taker.contracts.number() - share;
-        let Ok(contracts) = Contracts::from_number(u64::from(of_taker)) else {
-            return None;
-        };
+        let (round, share) = (self.round, u64::from(self.share));
+        let left = round.left - share;
         if left == 0 {
             return None;
         }
-        let stays = self.maker.contracts.number() > share;
+        let contracts = Contracts::try_from(u64::from(round.taker.contracts) - share).ok()?;
+        let stays = self.maker.contracts > self.share;
         Some(Round {
-            series: round.series,
             taker: Entry {
                 contracts,
                 ..round.taker
             },
-            price: round.price,
             left,
-            passed: if stays {
-                round.passed + 1
-            } else {
-                round.passed
-            },
-            rest: round.rest - u64::from(self.maker.contracts.number()),
+            passed: round.passed + usize::from(stays),
+            rest: round.rest - u64::from(self.maker.contracts),
+            ..round
         })
     }
 }

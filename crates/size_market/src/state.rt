@@ -1,6 +1,6 @@
 //! The market's tables and its round, with what is always so of them.
 
-ghost use Rattle.tables.specs.Held.{Good, resting_of};
+ghost use Rattle.tables.specs.Held.{resting_of};
 ghost use Rattle.size_market.specs.Going.{Sound};
 
 use crate::round::Round;
@@ -11,6 +11,5 @@ use tables::Tables;
 pub struct SizeMarket<'a> {
     pub(crate) tables: Tables<'a>,
     pub(crate) round: Option<Round>,
-    ghost good: { Good tables },
     ghost sound: { Sound (resting_of tables) round },
 }

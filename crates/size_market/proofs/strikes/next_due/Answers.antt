@@ -14,8 +14,8 @@ loop-maker-preserved c =
     let m = seen c.in-Some.maker in
     let g = c.loop-maker.invariant.0 in
     let o = found_ahead ess r (side_number c.other_side-side.result) m c.other_side-side.ensures c.in-Some.ensures in
-    let n : c.from-contracts.result ≡ m.contracts = c.from-contracts.ensures ∙ c.number.ensures in
+    let n : c.from-contracts.result ≡ m.contracts = c.from-contracts.ensures in
     let s : c.share.result ≡ share r.left m.contracts r.rest = c.share.ensures ∙ ap (λ v. share r.left v r.rest) n in
     let a = first_ahead ess r m g o in
-    let z = no_share c.share.result m.contracts c.in_default-from_number.ensures.reads.1 (omega (arith, s, a.within)) c.in-Some.maker.contracts.high in
+    let z = no_share c.share.result m.contracts c.in_default-try_from.ensures.reads.1 (omega (arith, s, a.within)) c.in-Some.maker.contracts.high in
     moved_on ess c.args.round c.loop-maker.passed c.loop-maker.rest c.from-contracts.result m c.in-Some.maker.contracts.low c.loop-maker.invariant o (sym s ∙ z) n

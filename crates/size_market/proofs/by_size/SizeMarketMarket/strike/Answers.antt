@@ -16,14 +16,14 @@ use Rattle.size_market.proofs.by_size.SizeMarketMarket.strike.Goals.{After-round
 pub returns-then-not-slips_fit : goal.returns-then-not-slips_fit
 returns-then-not-slips_fit c =
     let m = c.args.self.now in
-    let d = no_room (book_of m.tables) (round_of m) c.in-Some.round m.good.3 c.facts.ensures.series c.in-Some.ensures (not-false _ (sym c.if-not-slips_fit.ensures)) in
+    let d = no_room (book_of m.tables) (round_of m) c.in-Some.round m.tables.apart c.facts.ensures.series c.in-Some.ensures (not-false _ (sym c.if-not-slips_fit.ensures)) in
     record { struck = d.struck; exact = d.exact; round = d.left; lawful = tt; even = tt }
 
 pub trade-trade-requires : goal.trade-trade-requires
 trade-trade-requires c =
     let m = c.args.self.now in
-    let r = ready (resting_of m.tables) c.in-Some.round c.next_due-due.result c.crossing.result m.good.3 c.facts.ensures.series c.next_due-due.ensures c.crossing.ensures in
-    record { series = r.series; good = c.args.self.now.good; meet = r.meet; fair = r.fair; room = not-true _ (sym c.if-not-slips_fit.ensures) }
+    let r = ready (resting_of m.tables) c.in-Some.round c.next_due-due.result c.crossing.result m.tables.apart c.facts.ensures.series c.next_due-due.ensures c.crossing.ensures in
+    record { meet = r.meet; fair = r.fair; room = not-true _ (sym c.if-not-slips_fit.ensures) }
 
 pub round_after-self-requires : goal.round_after-self-requires
 round_after-self-requires c =
@@ -39,17 +39,17 @@ struck : (c : goal.After-round_after-self) →
 struck c =
     let m = c.args.self.now in
     struck_so (book_of m.tables) (book_of c.trade-trade.new.self) (round_of m) c.in-Some.round c.next_due-due.result c.crossing.result c.trade-trade.result c.round_after-self.result
-    m.good.3 c.facts.ensures.series (not-true _ (sym c.if-not-slips_fit.ensures)) c.in-Some.ensures c.next_due-due.ensures c.crossing.ensures
+    m.tables.apart c.facts.ensures.series (not-true _ (sym c.if-not-slips_fit.ensures)) c.in-Some.ensures c.next_due-due.ensures c.crossing.ensures
     c.trade-trade.ensures.trade c.trade-trade.ensures.struck c.round_after-self.ensures
 
-pub invariant_of-self-2 : goal.invariant_of-self-2
-invariant_of-self-2 c = record { good = c.trade-trade.ensures.good; sound = ∣ (struck c).0 ∣₁ }
+pub invariant_of-self : goal.invariant_of-self
+invariant_of-self c = record { sound = ∣ (struck c).0 ∣₁ }
 
 pub returns : goal.returns
 returns c =
     let m = c.args.self.now in
     let d = struck (goal.at.returns c).After-round_after-self in
-    let r = ready (resting_of m.tables) c.in-Some.round c.next_due-due.result c.crossing.result m.good.3 c.facts.ensures.series c.next_due-due.ensures c.crossing.ensures in
+    let r = ready (resting_of m.tables) c.in-Some.round c.next_due-due.result c.crossing.result m.tables.apart c.facts.ensures.series c.next_due-due.ensures c.crossing.ensures in
     record {
       struck = d.1.struck;
       exact = d.1.exact;

@@ -2,20 +2,12 @@
 
 use std::io;
 use terms::Refusal;
+use thiserror::Error;
 
+#[derive(Debug, Drop, Error)]
 pub(crate) enum Fault {
-    Output(io::Error),
-    Refused(Refusal),
-}
-
-impl From<io::Error> for Fault {
-    fn from(e: io::Error) -> Fault {
-        Fault::Output(e)
-    }
-}
-
-impl From<Refusal> for Fault {
-    fn from(e: Refusal) -> Fault {
-        Fault::Refused(e)
-    }
+    #[error(transparent)]
+    Output(#[from] io::Error),
+    #[error("refused: {}", .0.number())]
+    Refused(#[from] Refusal),
 }

@@ -4,22 +4,22 @@
 
 mod fault;
 mod play;
+mod shown;
 
 use chains::Slot;
 use fault::Fault;
-use market::Market;
-use play::{Line, entry, play, slip};
+use play::{Line, play, slip};
 use std::io;
-use tables::long_enough;
+use terms::{Entry, Kind, Side};
 use time_market::TimeMarket;
 
 fn by_time(rt: &HostRuntime) -> Result<(), Fault> {
-    let blank = entry(Line {
+    let blank = Entry::try_from(Line {
         series: 1,
         login: 1,
         number: 1,
-        buys: true,
-        quotes: false,
+        side: Side::Buy,
+        kind: Kind::Order,
         price: 1,
         contracts: 1,
     })?;
@@ -31,8 +31,7 @@ fn by_time(rt: &HostRuntime) -> Result<(), Fault> {
         next: 0,
         item: slip(blank),
     }; 65];
-    long_enough(&entries, &slips)?;
-    let mut market = TimeMarket::new(&mut entries, &mut slips);
+    let mut market = TimeMarket::try_new(&mut entries, &mut slips)?;
     println!(rt; "price, then time")?;
     play(rt, &mut market)
 }
@@ -41,9 +40,6 @@ fn main(rt: HostRuntime) -> io::Result<()> {
     match by_time(&rt) {
         Ok(()) => Ok(()),
         Err(Fault::Output(e)) => Err(e),
-        Err(Fault::Refused(refusal)) => {
-            let number = refusal.number();
-            println!(rt; "refused: {number}")
-        }
+        Err(refused) => println!(rt; "{refused}"),
     }
 }

@@ -1,8 +1,9 @@
 //! A few calls of a market, with what each answers.
 
 use crate::fault::Fault;
+use crate::shown::{Deal, Shown, Word};
 use market::Market;
-use std::io;
+use std::fmt;
 use terms::{
     Contracts, Entry, Kind, Login, OrderNumber, Price, Reach, Refusal, Series, Side, Slip,
 };
@@ -13,33 +14,50 @@ pub(crate) struct Line {
     pub(crate) series: u64,
     pub(crate) login: u64,
     pub(crate) number: u64,
-    pub(crate) buys: bool,
-    pub(crate) quotes: bool,
+    pub(crate) side: Side,
+    pub(crate) kind: Kind,
     pub(crate) price: u64,
     pub(crate) contracts: u64,
 }
 
-pub(crate) fn entry(line: Line) -> Result<Entry, Refusal> {
-    let login = Login::from_number(line.login)?;
-    let number = OrderNumber::from_number(line.number)?;
-    let price = Price::from_number(line.price)?;
-    let contracts = Contracts::from_number(line.contracts)?;
-    let side = if line.buys { Side::Buy } else { Side::Sell };
-    let kind = if line.quotes {
-        Kind::Quote
-    } else {
-        Kind::Order
-    };
-    Ok(Entry {
-        login,
-        number,
-        side,
-        kind,
-        price,
-        contracts,
-    })
+impl TryFrom<Line> for Entry {
+    type Error = Refusal;
+
+    fn try_from(line: Line) -> Result<Entry, Refusal> {
+        let login = Login::try_from(line.login)?;
+        let number = OrderNumber::try_from(line.number)?;
+        let price = Price::try_from(line.price)?;
+        let contracts = Contracts::try_from(line.contracts)?;
+        Ok(Entry {
+            login,
+            number,
+            side: line.side,
+            kind: line.kind,
+            price,
+            contracts,
+        })
+    }
 }
 
+impl fmt::Display for Line {
+    fn fmt<W: fmt::Write>(&self, f: &mut fmt::Formatter<W>) -> fmt::Result {
+        let Line {
+            series,
+            login,
+            number,
+            price,
+            contracts,
+            ..
+        } = *self;
+        write!(
+            f,
+            "series {series}, login {login} number {number}, {} {contracts} at {price}",
+            Word(self.side)
+        )
+    }
+}
+
+/// The slip of an entry. A function, since neither is of this crate, whose own `From` it could be.
 pub(crate) fn slip(entry: Entry) -> Slip {
     Slip {
         number: entry.number,
@@ -49,32 +67,13 @@ pub(crate) fn slip(entry: Entry) -> Slip {
     }
 }
 
-fn side_word(side: Side) -> &'static str {
-    match side {
-        Side::Buy => "buy",
-        Side::Sell => "sell",
-    }
-}
-
 fn rest<M: Market>(rt: &HostRuntime, market: &mut M, line: Line) -> Result<(), Fault> {
-    let series = Series::from_number(line.series)?;
-    let entry = entry(line)?;
-    let word = side_word(entry.side);
-    let Line {
-        series: at,
-        login,
-        number,
-        price,
-        contracts,
-        ..
-    } = line;
-    print!(rt; "rest: series {at}, login {login} number {number}, {word} {contracts} at {price}")?;
+    let series = Series::try_from(line.series)?;
+    let entry = Entry::try_from(line)?;
+    print!(rt; "rest: {line}")?;
     match market.rest(series, entry) {
         Ok(()) => println!(rt; " -> rests")?,
-        Err(e) => {
-            let n = e.number();
-            println!(rt; " -> {n}")?;
-        }
+        Err(e) => println!(rt; " -> {}", e.number())?,
     }
     Ok(())
 }
@@ -86,21 +85,15 @@ fn withdraw<M: Market>(
     number: u64,
 ) -> Result<(), Fault> {
     print!(rt; "withdraw: login {login} number {number}")?;
-    match market.withdraw(
-        Login::from_number(login)?,
-        OrderNumber::from_number(number)?,
-    ) {
+    match market.withdraw(Login::try_from(login)?, OrderNumber::try_from(number)?) {
         Ok(left) => println!(rt; " -> {left} contracts")?,
-        Err(e) => {
-            let n = e.number();
-            println!(rt; " -> {n}")?;
-        }
+        Err(e) => println!(rt; " -> {}", e.number())?,
     }
     Ok(())
 }
 
 fn sweep<M: Market>(rt: &HostRuntime, market: &mut M, login: u64, reach: u64) -> Result<(), Fault> {
-    let n = market.sweep(Login::from_number(login)?, Reach::from_number(reach)?);
+    let n = market.sweep(Login::try_from(login)?, Reach::try_from(reach)?);
     println!(rt; "sweep: login {login}, reach {reach} -> {n} contracts")?;
     Ok(())
 }
@@ -108,48 +101,19 @@ fn sweep<M: Market>(rt: &HostRuntime, market: &mut M, login: u64, reach: u64) ->
 fn strike<M: Market>(rt: &HostRuntime, market: &mut M) -> Result<(), Fault> {
     match market.strike() {
         Ok(None) => println!(rt; "strike -> none")?,
-        Ok(Some(t)) => {
-            let (b, bn, s, sn) = (
-                t.buyer.login,
-                t.buyer.number,
-                t.seller.login,
-                t.seller.number,
-            );
-            let (n, p) = (t.contracts, t.price);
-            println!(rt;
-                "strike -> {n} at {p}: login {b} number {bn} buys, login {s} number {sn} sells"
-            )?;
-        }
-        Err(e) => {
-            let n = e.number();
-            println!(rt; "strike -> {n}")?;
-        }
+        Ok(Some(trade)) => println!(rt; "strike -> {}", Deal(trade))?,
+        Err(e) => println!(rt; "strike -> {}", e.number())?,
     }
     Ok(())
 }
 
-fn show_slip(rt: &HostRuntime, slip: Option<Slip>) -> io::Result<()> {
-    match slip {
-        None => println!(rt; "none"),
-        Some(s) => {
-            let word = side_word(s.side);
-            let (number, contracts, price) = (
-                s.number.number(),
-                s.contracts.number(),
-                s.price.number(),
-            );
-            println!(rt; "number {number}, {word} {contracts} at {price}")
-        }
-    }
-}
-
-fn slips<M: Market>(rt: &HostRuntime, market: &mut M, login: u64) -> Result<(), Fault> {
-    let login_number = login;
-    let login = Login::from_number(login)?;
-    print!(rt; "first slip of login {login_number}: ")?;
-    show_slip(rt, market.first_slip(login))?;
-    print!(rt; "dropped: ")?;
-    show_slip(rt, market.drop_slip(login))?;
+fn slips<M: Market>(rt: &HostRuntime, market: &mut M, number: u64) -> Result<(), Fault> {
+    let login = Login::try_from(number)?;
+    println!(rt;
+        "first slip of login {number}: {}",
+        Shown(market.first_slip(login))
+    )?;
+    println!(rt; "dropped: {}", Shown(market.drop_slip(login)))?;
     Ok(())
 }
 
@@ -159,8 +123,8 @@ pub(crate) fn play<M: Market>(rt: &HostRuntime, market: &mut M) -> Result<(), Fa
         series: 3,
         login: 1,
         number: 7,
-        buys: false,
-        quotes: true,
+        side: Side::Sell,
+        kind: Kind::Quote,
         price: 100,
         contracts: 10,
     };
@@ -188,8 +152,8 @@ pub(crate) fn play<M: Market>(rt: &HostRuntime, market: &mut M) -> Result<(), Fa
     let buy = Line {
         login: 3,
         number: 1,
-        buys: true,
-        quotes: false,
+        side: Side::Buy,
+        kind: Kind::Order,
         price: 100,
         contracts: 12,
         ..sell
@@ -207,7 +171,6 @@ pub(crate) fn play<M: Market>(rt: &HostRuntime, market: &mut M) -> Result<(), Fa
     sweep(rt, market, 1, 3)?;
     slips(rt, market, 1)?;
     slips(rt, market, 3)?;
-    let bare = market.is_bare();
-    println!(rt; "bare: {bare}")?;
+    println!(rt; "bare: {}", market.is_bare())?;
     Ok(())
 }

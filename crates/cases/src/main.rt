@@ -8,6 +8,7 @@ use std::{fmt, io};
 use table::{Answer, Burst, Case, Event, Question, answer_to, worked};
 use terms::ConditionNumbers;
 
+/// A side by its number, which a question has as it is sent.
 fn side_word(side: u64) -> &'static str {
     if side == 1 { "buy" } else { "sell" }
 }

@@ -80,6 +80,7 @@ impl<'a, T: Record> Pair<'a, T> {
         let all = Choice::all(k);
         let Pair { chains, mirror, .. } = self;
         let mut alike = chains.count(k) == mirror.count(all);
+        // A loop, since each turn changes the chains.
         for entry in &mirror.entries {
             if all.has(entry) {
                 alike = chains.pop_front(k) == Some(entry.item) && alike;
@@ -126,6 +127,7 @@ impl<'a, T: Record> Pair<'a, T> {
         ensures full { total (lists self.new.chains) ≡ places_of self.old.chains }
     {
         let room = self.chains.room();
+        // A loop, since each turn changes the chains.
         for n in 0..room {
             let Ok(()) = self.chains.push_back(k, item) else {
                 return n;

@@ -12,6 +12,7 @@ use size_market::SizeMarket;
 use standard::standard_pile;
 use std::fmt::Write;
 use std::io::Read;
+use tables::long_enough;
 use terms::{Call, Contracts, Entry, Event, Kind, Login, OrderNumber, Price, Refusal, Side, Slip};
 use time_market::TimeMarket;
 
@@ -91,14 +92,15 @@ fn played_above(
         next: 0,
         item: slip
     }; slip_slots]?;
+    long_enough(entries.as_slice(), slips.as_slice())?;
     let mut checks = standard_pile();
     let standings = match priority {
         Priority::Time => {
-            let mut market = TimeMarket::try_new(entries.as_mut_slice(), slips.as_mut_slice())?;
+            let mut market = TimeMarket::new(entries.as_mut_slice(), slips.as_mut_slice());
             played(&mut market, &mut checks, calls, events)?
         }
         Priority::Size => {
-            let mut market = SizeMarket::try_new(entries.as_mut_slice(), slips.as_mut_slice())?;
+            let mut market = SizeMarket::new(entries.as_mut_slice(), slips.as_mut_slice());
             played(&mut market, &mut checks, calls, events)?
         }
     };
@@ -176,7 +178,9 @@ fn play_script(
         write_report(&standings, &ledger, &mut out)?;
     }
     rt.write_all(out.as_bytes())?;
-    script.fault.map_or(Ok(()), |fault| Err(DayFault::Line(fault)))
+    script
+        .fault
+        .map_or(Ok(()), |fault| Err(DayFault::Line(fault)))
 }
 
 /// Plays the day that stands in the input.

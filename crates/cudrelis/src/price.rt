@@ -128,8 +128,10 @@ fn answer_line(rt: &HostRuntime, at: u64, line: &[u8]) -> anyhow::Result<()> {
     if Reader::new(line).next().is_none() {
         return Ok(());
     }
-    let fields = numbers::<13>(&mut Reader::new(line))
-        .map_err(|fault| anyhow!(Complaint { line: at, fault }))?;
+    let fields = numbers::<13>(&mut Reader::new(line)).map_err(|fault| anyhow!(Complaint {
+        line: at,
+        fault
+    }))?;
     echo(rt, line)?;
     println!(rt;
         "-> {}",

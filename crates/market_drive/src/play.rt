@@ -1,7 +1,7 @@
 //! A few calls of a market, with what each answers.
 
 use crate::fault::Fault;
-use crate::shown::{Deal, Shown, Word};
+use crate::shown::{Deal, Shown};
 use market::Market;
 use std::fmt;
 use terms::{
@@ -45,14 +45,14 @@ impl fmt::Display for Line {
             series,
             login,
             number,
+            side,
             price,
             contracts,
             ..
         } = *self;
         write!(
             f,
-            "series {series}, login {login} number {number}, {} {contracts} at {price}",
-            Word(self.side)
+            "series {series}, login {login} number {number}, {side} {contracts} at {price}"
         )
     }
 }

@@ -1,20 +1,7 @@
 //! How an entry to rest, a trade and a slip are printed.
 
 use std::fmt;
-use terms::{Side, Slip, Trade};
-
-/// A side, by its word. It stands for the side, whose own `Display` another crate cannot write.
-#[derive(Clone, Copy)]
-pub(crate) struct Word(pub(crate) Side);
-
-impl fmt::Display for Word {
-    fn fmt<W: fmt::Write>(&self, f: &mut fmt::Formatter<W>) -> fmt::Result {
-        match self.0 {
-            Side::Buy => write!(f, "buy"),
-            Side::Sell => write!(f, "sell"),
-        }
-    }
-}
+use terms::{Slip, Trade};
 
 /// A trade, with who buys and who sells.
 #[derive(Clone, Copy)]
@@ -48,7 +35,7 @@ impl fmt::Display for Shown {
                 f,
                 "number {}, {} {} at {}",
                 slip.number.number(),
-                Word(slip.side),
+                slip.side,
                 slip.contracts.number(),
                 slip.price.number()
             ),

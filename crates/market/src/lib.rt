@@ -14,11 +14,6 @@ use terms::{Entry, Login, OrderNumber, Reach, Refusal, Series, Slip, Trade};
 pub trait Market {
     ghost book: { Self → Book };
 
-    /// There are 16 series and 24 logins.
-    fn facts(&self)
-        ensures series { length (book self.now).resting ≡ 16 }
-        ensures logins { length (book self.now).slips ≡ 24 };
-
     /// Puts an entry last in its series, unless its login rests that number already, or rests 16 entries.
     fn rest(&mut self, series: Series, entry: Entry) -> Result<(), Refusal>
         ensures { Rested (book self.old) series.value (seen entry) result (book self.new) };
@@ -47,4 +42,9 @@ pub trait Market {
     /// Whether nothing rests and nothing waits.
     fn is_bare(&self) -> bool
         ensures { Bare (book self.now) result };
+
+    // There are 16 series and 24 logins.
+    ghost series: { (m : Self) → length (book m).resting ≡ 16 };
+
+    ghost logins: { (m : Self) → length (book m).slips ≡ 24 };
 }

@@ -8,6 +8,7 @@ ghost use Rattle.market.specs.Seen.{seen, seen_oldest};
 ghost use Rattle.tables.specs.Cross.{Even};
 ghost use Rattle.tables.specs.Held.{book_of, LongEnough};
 ghost use Rattle.size_market.specs.Size.{size_answer, round_after, ended_by, Lawful};
+ghost use Rattle.tables.proofs.Counts.{series_count, logins_count};
 ghost use Rattle.size_market.specs.Meaning.{round_of};
 
 use crate::state::SizeMarket;
@@ -34,10 +35,6 @@ impl<'a> SizeMarket<'a> {
 
 impl<'a> Market for SizeMarket<'a> {
     ghost book = { λ m. book_of m.tables };
-
-    fn facts(&self) {
-        self.tables.facts();
-    }
 
     /// Ends the round where it is accepted.
     fn rest(&mut self, series: Series, entry: Entry) -> Result<(), Refusal>
@@ -111,4 +108,8 @@ impl<'a> Market for SizeMarket<'a> {
     fn is_bare(&self) -> bool {
         self.tables.is_bare()
     }
+
+    ghost series = { λ m. series_count m.tables };
+
+    ghost logins = { λ m. logins_count m.tables };
 }

@@ -12,3 +12,4 @@ pub mod Pairs
 pub mod Crossings
 pub mod Makers
 pub mod Leaving
+pub mod Counts

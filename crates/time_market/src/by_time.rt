@@ -5,6 +5,7 @@ ghost use Rattle.market.specs.Book.{empty as empty_book};
 ghost use Rattle.market.specs.Market.{Struck};
 ghost use Rattle.tables.specs.Cross.{Even};
 ghost use Rattle.tables.specs.Held.{book_of, LongEnough, Asked};
+ghost use Rattle.tables.proofs.Counts.{series_count, logins_count};
 ghost use Rattle.time_market.specs.Time.{time_answer, Orderly};
 
 use chains::Slot;
@@ -44,10 +45,6 @@ impl<'a> TimeMarket<'a> {
 
 impl<'a> Market for TimeMarket<'a> {
     ghost book = { λ m. book_of m.tables };
-
-    fn facts(&self) {
-        self.tables.facts();
-    }
 
     fn rest(&mut self, series: Series, entry: Entry) -> Result<(), Refusal> {
         self.tables.rest(series, entry)
@@ -92,4 +89,8 @@ impl<'a> Market for TimeMarket<'a> {
     fn is_bare(&self) -> bool {
         self.tables.is_bare()
     }
+
+    ghost series = { λ m. series_count m.tables };
+
+    ghost logins = { λ m. logins_count m.tables };
 }

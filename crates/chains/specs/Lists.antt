@@ -1,5 +1,5 @@
 -- What the chains hold: the list of each, oldest first, how many items together, and for how many there are places.
-use Rattle.std.specs.Prelude.{◌≡◌, ℕ, ◌-◌, Bool, true, List, [], ◌∷◌, ◌++◌, length, sum_by, slice_index_or, slice_set}
+use Rattle.std.specs.Prelude.{◌≡◌, ℕ, ◌-◌, Bool, true, List, [], ◌∷◌, ◌++◌, length, sum_by, slice_index_or, slice_set, codes}
 use Rattle.chains.specs.declared.table.Chains.{Chains}
 use Rattle.chains.specs.Sound.{Parts, parts_of, listed}
 use Rattle.chains.specs.Asks.{NoneOf}
@@ -30,3 +30,7 @@ appended ls k x = changed (λ xs. xs ++ x ∷ []) ls k
 -- what was just appended is taken off again: where x was appended to old, and is the first item that meets p, old is what is left
 abbrev pub Undoes : {X : Type 0} → (X → Bool) → ℕ → List (List X) → List (List X) → Type 0
 Undoes {X} p k before after = (old : List (List X)) (x : X) → before ≡ appended old k x → NoneOf p (slice_index_or old k []) → p x ≡ true → after ≡ old
+
+-- what is said of a table that has no place left
+abbrev pub full_text : List ℕ
+full_text = codes "no place is left"

@@ -47,7 +47,7 @@ impl Ends {
     }
 }
 
-/// N chains of items in a lent table.
+/// N chains of items in a lent table. A chain is asked for by its number, which a call requires to be below N, as a slice's item by its index.
 #[derive(Drop)]
 pub struct Chains<'a, T, const N: usize> {
     table: &'a mut [Slot<T>],

@@ -12,12 +12,9 @@ use size_market::SizeMarket;
 use standard::standard_pile;
 use std::fmt::Write;
 use std::io::Read;
-use tables::long_enough;
+use tables::{ENTRY_SLOTS, long_enough};
 use terms::{Call, Contracts, Entry, Event, Kind, Login, OrderNumber, Price, Refusal, Side, Slip};
 use time_market::TimeMarket;
-
-/// The entry table's length: what every market needs.
-const ENTRY_SLOTS: usize = 385;
 
 /// How full the output may grow before it is written.
 const FULL: usize = 65_536;

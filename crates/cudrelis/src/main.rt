@@ -13,9 +13,7 @@ use price::price_desk;
 use script::number;
 use std::process::ExitCode;
 use std::{env, io};
-
-/// The slip table's length where none is given.
-const SLIP_SLOTS: usize = 65;
+use tables::SLIP_SLOTS;
 
 /// What is asked of the program.
 #[derive(Clone, Copy)]

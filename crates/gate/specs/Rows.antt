@@ -1,8 +1,9 @@
 -- A login's row in the code, seen as the row of the definitions. Assumes nothing.
-use Rattle.std.specs.Prelude.{ℕ}
+use Rattle.std.specs.Prelude.{ℕ, Some, None, Option}
 use Rattle.terms.specs.Kinds.{reach_number}
 use Rattle.history.specs.State as state
 use Rattle.gate.specs.declared.rows.Row.{Row}
+use Rattle.gate.specs.declared.rows.Session.{Session}
 use Rattle.gate.specs.declared.rows.Standing.{Standing}
 use Rattle.gate.specs.declared.rows.Standing.TheVariants.{Free, Open, Leaving}
 
@@ -10,6 +11,12 @@ abbrev pub standing_of : Standing → state.Standing
 standing_of Free = state.Free
 standing_of (Open s) = state.Open
 standing_of (Leaving s) = state.Leaving
+
+-- what the firm of a login has it with
+abbrev pub session_of : Standing → Option Session
+session_of Free = None
+session_of (Open s) = Some s
+session_of (Leaving s) = Some s
 
 -- a free login is nobody's
 abbrev pub acronym_of : Standing → ℕ

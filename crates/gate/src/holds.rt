@@ -49,7 +49,7 @@ impl<'g, M: Market, C: Check> Gate<'g, M, C> {
         }
     }
 
-    // Apart from `lift_login`: a row that a closure changes is known only by what the closure ensures, which is longer than both.
+    // Holding and lifting stand apart, by login and by firm: a row that a closure changes is known only by what the closure ensures, which is longer than both.
     fn hold_login(&mut self, login: u64, cause: u8)
         ensures { state_of M.Market C.Check self.new ≡ hold_scope (ScopeNumber.Login login) cause (state_of M.Market C.Check self.old) }
     {

@@ -14,7 +14,7 @@ use fields::{Kill, scope_fields};
 use market::Market;
 use terms::{Event, Notice, Refusal, ScopeNumber};
 
-/// The cause of a hold by a kill.
+/// The cause of a hold by a kill: a plain number, as it is answered.
 const KILLED: u8 = 60;
 
 impl<'g, M: Market, C: Check> Gate<'g, M, C> {

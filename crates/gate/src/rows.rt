@@ -2,7 +2,7 @@
 
 ghost use Rattle.std.specs.Prelude.{◌≡◌, true, false, cond, ◌&&◌, if◌then◌else◌};
 ghost use Rattle.history.specs.State.{is_free, is_open, is_leaving, blank, leaving, with_hold, with_out, first_cause};
-ghost use Rattle.gate.specs.Rows.{seen_row};
+ghost use Rattle.gate.specs.Rows.{seen_row, session_of};
 
 use terms::Reach;
 
@@ -37,7 +37,7 @@ pub(crate) const BLANK: Row = Row {
     out: false,
 };
 
-/// A hold keeps its first cause.
+/// A hold keeps its first cause. It chooses as a pile does between the causes of two checks, whose choice is no part of what a check promises.
 pub(crate) fn first_cause(old: u8, new: u8) -> u8
     ensures { result ≡ first_cause old new }
 {
@@ -64,26 +64,28 @@ impl Row {
         matches!(self.standing, Standing::Leaving(_))
     }
 
-    /// The firm that has the login, 0 for none.
-    pub(crate) fn acronym(&self) -> u64
-        ensures { result ≡ (seen_row self.now).acronym }
+    /// What its firm has the login with.
+    fn session(&self) -> Option<Session>
+        ensures { result ≡ session_of self.now.standing }
     {
         match self.standing {
-            Standing::Free => 0,
-            Standing::Open(session) => session.acronym,
-            Standing::Leaving(session) => session.acronym,
+            Standing::Free => None,
+            Standing::Open(session) | Standing::Leaving(session) => Some(session),
         }
     }
 
-    /// The role that it was opened with, 0 for none.
+    /// The firm that has the login, 0 for none: a number, since it is looked up in tables numbered from 1, where 0 reads as absent.
+    pub(crate) fn acronym(&self) -> u64
+        ensures { result ≡ (seen_row self.now).acronym }
+    {
+        self.session().map_or(0, |session| session.acronym)
+    }
+
+    /// The role that it was opened with, 0 for none, as the checks are told of it.
     pub(crate) fn role(&self) -> u64
         ensures { result ≡ (seen_row self.now).role }
     {
-        match self.standing {
-            Standing::Free => 0,
-            Standing::Open(session) => session.role,
-            Standing::Leaving(session) => session.role,
-        }
+        self.session().map_or(0, |session| session.role)
     }
 }
 

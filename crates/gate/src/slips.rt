@@ -37,9 +37,7 @@ impl<'g, M: Market, C: Check> Gate<'g, M, C> {
         if row.is_free() {
             return Err(Refusal::NotOpen);
         }
-        let Some(slip) = self.market.first_slip(taker) else {
-            return Err(Refusal::NoSlip);
-        };
+        let slip = self.market.first_slip(taker).ok_or(Refusal::NoSlip)?;
         if row.out {
             return Err(Refusal::SlipOut);
         }

@@ -85,6 +85,7 @@ impl<'g, M: Market, C: Check> Gate<'g, M, C> {
         ensures after { state_of M.Market C.Check self.new ≡ with_book (swept_up_to (cut_in (state_of M.Market C.Check self.old) cut) 24 (M.Market.book self.old.market.now)) (state_of M.Market C.Check self.old) }
     {
         let mut sum = 0;
+        // A loop, since each turn changes the market.
         for login in 1..=24 {
             sum += self.sweep_login(cut, login);
         }

@@ -6,9 +6,8 @@ use Rattle.terms.specs.declared.messages.ScopeNumber.TheVariants.{Login, Acronym
 use Rattle.terms.specs.declared.messages.Fill.{Fill}
 use Rattle.terms.specs.declared.messages.Ticket.{Ticket}
 use Rattle.terms.specs.declared.events.EnterAnswer.{EnterAnswer}
-use Rattle.terms.specs.declared.events.EnterAnswer.TheVariants.{Accepted, TurnedDown, Refused}
 use Rattle.terms.specs.declared.events.Struck.{Struck}
-use Rattle.terms.specs.Entered.{entered_effect}
+use Rattle.terms.specs.Entered.{entered_effect, entered_number}
 use Rattle.terms.specs.declared.events.Event.{Event}
 use Rattle.terms.specs.declared.events.Event.TheVariants.{Tick, Values, Open, Retire, Limit, Enter, Cancel, Strike, Take, Receipt, PutBack, Kill, Release}
 use Rattle.terms.specs.Tables.{at, put}
@@ -27,13 +26,8 @@ abbrev pub cancelling : ScopeNumber → ℕ → Item
 cancelling scope n = item scope (sums 0 0 n)
 
 -- an entry that is accepted counts with all its contracts, also where the same call sweeps it again
-abbrev pub accepted_of : Ticket → EnterAnswer → ℕ
-accepted_of t (Accepted x) = t.contracts
-accepted_of t (TurnedDown n x) = 0
-accepted_of t (Refused x c) = 0
-
 abbrev pub accepting : Ticket → EnterAnswer → Item
-accepting t r = item (Login t.login) (sums (accepted_of t r) 0 (entered_effect r).cancelled)
+accepting t r = item (Login t.login) (sums (cond (entered_number r == 0) t.contracts 0) 0 (entered_effect r).cancelled)
 
 abbrev pub receipting : Fill → Item
 receipting f = item (Login f.login) (sums 0 f.contracts 0)

@@ -29,9 +29,10 @@ impl Item {
     fn entered(ticket: Ticket, answer: EnterAnswer) -> Item
         ensures { result ≡ accepting ticket answer }
     {
-        let accepted = match answer {
-            EnterAnswer::Accepted { .. } => ticket.contracts,
-            EnterAnswer::TurnedDown { .. } | EnterAnswer::Refused { .. } => 0,
+        let accepted = if answer.number() == 0 {
+            ticket.contracts
+        } else {
+            0
         };
         Item {
             scope: ScopeNumber::Login(ticket.login),

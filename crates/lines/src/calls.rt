@@ -10,10 +10,7 @@ ghost use Rattle.lines.specs.declared.verbs.Verb.TheVariants as named;
 use crate::faults::{CallFault, FieldFault, LineFault};
 use crate::verbs::{ScopeWord, Verb};
 use script::{Reader, numbers};
-use terms::{Call, ConditionNumbers, Fill, LimitNumbers, Ticket, ValueNumbers};
-
-/// The limit of one entry's contracts, which has no interval.
-const SIZE: u64 = 4;
+use terms::{Call, ConditionNumbers, Fill, LimitKind, LimitNumbers, Ticket, ValueNumbers};
 
 fn conditions_in(n: &[u64; 12]) -> ConditionNumbers
     ensures { result ≡ (values_in n.now).conditions }
@@ -92,7 +89,7 @@ fn limit_numbers(reader: &mut Reader) -> Result<[u64; 4], FieldFault>
 {
     let mut ahead = *reader;
     match numbers::<3>(&mut ahead) {
-        Ok(n) if n[1] == SIZE => Ok([n[0], n[1], n[2], 0]),
+        Ok(n) if LimitKind::try_from(n[1]) == Ok(LimitKind::Size) => Ok([n[0], n[1], n[2], 0]),
         _ => fields(Verb::Limit, reader),
     }
 }

@@ -10,6 +10,7 @@ use chains::Slot;
 use fault::Fault;
 use play::{Line, play, slip};
 use std::io;
+use tables::{ENTRY_SLOTS, SLIP_SLOTS};
 use terms::{Entry, Kind, Side};
 use time_market::TimeMarket;
 
@@ -26,11 +27,11 @@ fn by_time(rt: &HostRuntime) -> Result<(), Fault> {
     let mut entries = [Slot {
         next: 0,
         item: blank,
-    }; 385];
+    }; ENTRY_SLOTS];
     let mut slips = [Slot {
         next: 0,
         item: slip(blank),
-    }; 65];
+    }; SLIP_SLOTS];
     let mut market = TimeMarket::try_new(&mut entries, &mut slips)?;
     println!(rt; "price, then time")?;
     play(rt, &mut market)

@@ -19,10 +19,10 @@ use terms::{Entry, Login, OrderNumber, Reach, Refusal, Series, Slip};
 const ALLOTMENT: usize = 16;
 
 /// Slots for 16 entries of each of 24 logins, and one that is not used.
-const ENTRY_SLOTS: usize = 385;
+pub const ENTRY_SLOTS: usize = 385;
 
 /// Slots for 64 slips at least, and one that is not used.
-const SLIP_SLOTS: usize = 65;
+pub const SLIP_SLOTS: usize = 65;
 
 /// Puts an item at the end of a chain, where there is a place for it.
 pub(crate) fn append<T: Copy, const N: usize>(chains: &mut Chains<'_, T, N>, k: usize, item: T)
@@ -56,6 +56,7 @@ impl<'a> Tables<'a> {
         ensures { result ≡ tally (P.Test.meets test.now) (lists self.now.entries) }
     {
         self.entries.facts();
+        // that the counts together fit, which is known once the number of all entries is
         let _ = self.entries.len();
         (0..16).map(|k| self.entries.count_of(k, test)).sum()
     }
@@ -148,7 +149,7 @@ impl<'a> Tables<'a> {
         }
     }
 
-    /// The same over any slots; refused where they are not long enough, with nothing written to them.
+    /// The same over any slots; refused where they are not long enough.
     // No clause says that nothing is written: a slice that a result borrows has no value after the call.
     pub fn try_new(
         entries: &'a mut [Slot<Entry>],

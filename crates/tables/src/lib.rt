@@ -10,5 +10,5 @@ mod state;
 mod strikes;
 
 pub use cross::Crossing;
-pub use held::long_enough;
+pub use held::{ENTRY_SLOTS, SLIP_SLOTS, long_enough};
 pub use state::Tables;

@@ -66,6 +66,7 @@ impl<'a> Tables<'a> {
                 number: other.number,
             },
         };
+        // A match, whose two arms the proof follows.
         match self.entries.first(series.index(), &test) {
             Some(first) => test.one.meets(&first),
             None => false,

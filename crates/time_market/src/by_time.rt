@@ -30,7 +30,7 @@ impl<'a> TimeMarket<'a> {
         }
     }
 
-    /// The same over any slots; refused where they are not long enough, with nothing written to them.
+    /// The same over any slots; refused where they are not long enough.
     pub fn try_new(
         entries: &'a mut [Slot<Entry>],
         slips: &'a mut [Slot<Slip>],

@@ -6,11 +6,19 @@ mod table;
 
 use std::{fmt, io};
 use table::{Answer, Burst, Case, Event, Question, answer_to, worked};
-use terms::ConditionNumbers;
+use terms::{ConditionNumbers, Side};
 
-/// A side by its number, which a question has as it is sent.
-fn side_word(side: u64) -> &'static str {
-    if side == 1 { "buy" } else { "sell" }
+/// A side by its number, which a question has as it is sent: by its word, where it is the number of one.
+#[derive(Clone, Copy)]
+struct SideOf(u64);
+
+impl fmt::Display for SideOf {
+    fn fmt<W: fmt::Write>(&self, f: &mut fmt::Formatter<W>) -> fmt::Result {
+        match Side::try_from(self.0) {
+            Ok(side) => write!(f, "{side}"),
+            Err(_) => write!(f, "side {}", self.0),
+        }
+    }
 }
 
 /// So many events at a time.
@@ -41,7 +49,7 @@ impl fmt::Display for Question {
                     close,
                     ..
                 } = conditions;
-                let side = side_word(request.side);
+                let side = SideOf(request.side);
                 let price = request.price;
                 write!(
                     f,
@@ -49,7 +57,7 @@ impl fmt::Display for Question {
                 )
             }
             Question::PutAndCall { request, values } => {
-                let side = side_word(request.side);
+                let side = SideOf(request.side);
                 let price = request.price;
                 let strike = values.strike;
                 write!(f, "put and call: {side} {price}, strike {strike}")

@@ -1,5 +1,5 @@
 -- Limit price: the reference, the exemptions, the distance, and what they make of a request. Assumes nothing.
-use Rattle.std.specs.Prelude.{◌≡◌, ℕ, ◌+◌, ◌<◌, ◌≤◌, Bool, true, false, cond, not, ◌&&◌, List, [], ◌∷◌, Some, None, Ok, Err, Option, Result, nat_le, nat_lt, slice_index}
+use Rattle.std.specs.Prelude.{◌≡◌, ℕ, ◌+◌, ◌<◌, ◌≤◌, Bool, true, false, cond, not, ◌&&◌, List, [], ◌∷◌, Some, None, Ok, Err, Option, Result, nat_le, nat_lt, slice_index, codes}
 use Rattle.terms.specs.declared.kinds.Side.{Side}
 use Rattle.terms.specs.declared.kinds.Side.TheVariants.{Buy, Sell}
 use Rattle.terms.specs.declared.kinds.Kind.{Kind}
@@ -93,6 +93,12 @@ is_open Halt = false
 abbrev pub makes_markets : Role → Bool
 makes_markets Member = false
 makes_markets MarketMaker = true
+
+-- how an exemption is printed
+abbrev pub exemption_word : Exemption → List ℕ
+exemption_word exempt.Stop = codes "stop order"
+exemption_word exempt.Sweep = codes "intermarket sweep"
+exemption_word exempt.MarketMaker = codes "market-maker"
 
 -- stop orders always; intermarket sweeps but when open; market-makers before the opening
 abbrev pub exemption : Request → Phase → Option Exemption

@@ -1,10 +1,10 @@
 //! A check set before another, which is again a check.
 
 ghost use Rattle.std.specs.Prelude.{◌≡◌};
-ghost use Rattle.checks.specs.Piled.{first_of, pairs, first_causes, piled, piled_lawful, length_pairs};
+ghost use Rattle.checks.specs.Piled.{pairs, first_causes, piled, piled_lawful, length_pairs};
 
 use crate::checking::Check;
-use terms::{Asked, Causes, Notice, TurnDown};
+use terms::{Asked, Causes, Notice, TurnDown, first_cause};
 
 /// A check set before another or before a pile of others.
 #[derive(Drop)]
@@ -13,20 +13,13 @@ pub struct Pile<A, B> {
     pub rest: B,
 }
 
-// The first of two causes that is not 0. Causes are plain numbers, as they are sent and as the meaning has them.
-fn first_of(a: u8, b: u8) -> u8
-    ensures { result ≡ first_of a b }
-{
-    if a == 0 { b } else { a }
-}
-
-// Each cause by the first that is not 0.
+// Each cause by the first that is not 0. Causes are plain numbers, as they are sent and as the meaning has them.
 fn first_causes(a: Causes, b: Causes) -> Causes
     ensures { result ≡ first_causes a b }
 {
     Causes {
-        login: first_of(a.login, b.login),
-        acronym: first_of(a.acronym, b.acronym),
+        login: first_cause(a.login, b.login),
+        acronym: first_cause(a.acronym, b.acronym),
     }
 }
 

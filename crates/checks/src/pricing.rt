@@ -3,8 +3,9 @@
 ghost use Rattle.std.specs.Prelude.{◌≡◌, ℕ, ◌≤◌, true, Some, None, slice_index};
 ghost use Rattle.terms.specs.declared.kinds.Kind.TheVariants.{Quote};
 ghost use Rattle.terms.specs.Refusals.{answer};
-ghost use Rattle.checks.specs.LimitPrice.{crossed as crossed_by, facing as facing_of, own as own_of, usable as usable_by, clear_close, reference as reference_for, exemption as exemption_of, band as band_of, distances, distance as distance_for, Scaled, basis, allowed, limit_price, Edges};
+ghost use Rattle.checks.specs.LimitPrice.{exemption_word, crossed as crossed_by, facing as facing_of, own as own_of, usable as usable_by, clear_close, reference as reference_for, exemption as exemption_of, band as band_of, distances, distance as distance_for, Scaled, basis, allowed, limit_price, Edges};
 
+use std::fmt;
 use terms::{BidOffer, Class, Conditions, Kind, Phase, Price, Refusal, Request, Role, Side};
 
 /// Why an order is not held to a reference.
@@ -13,6 +14,18 @@ pub enum Exemption {
     Stop,
     Sweep,
     MarketMaker,
+}
+
+impl fmt::Display for Exemption {
+    ghost output = { λ x. Some (exemption_word x) };
+
+    fn fmt<W: fmt::Write>(&self, f: &mut fmt::Formatter<W>) -> fmt::Result {
+        f.write_str(match *self {
+            Exemption::Stop => "stop order",
+            Exemption::Sweep => "intermarket sweep",
+            Exemption::MarketMaker => "market-maker",
+        })
+    }
 }
 
 /// What a request is judged by.
@@ -52,15 +65,11 @@ fn facing(side: Side, quotation: &BidOffer) -> Option<Price>
     }
 }
 
-/// The other side: for a buy the bid, for a sell the offer. A match as short as that of `facing`, and shorter than a function for the
-/// opposite side with a call of `facing`.
+/// The other side: for a buy the bid, for a sell the offer.
 fn own(side: Side, quotation: &BidOffer) -> Option<Price>
     ensures { result ≡ own_of side quotation.now }
 {
-    match side {
-        Side::Buy => quotation.bid,
-        Side::Sell => quotation.offer,
-    }
+    facing(side.other(), quotation)
 }
 
 /// Whether the national best bid and offer count.

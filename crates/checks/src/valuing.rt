@@ -2,7 +2,7 @@
 
 ghost use Rattle.std.specs.Prelude.{◌≡◌, replicate, None as Absent, refl};
 ghost use Rattle.checks.specs.PutAndCall.{put_and_call};
-ghost use Rattle.checks.specs.Known.{Verdict, InRange, request_numbers, case_of, known_after, by_values, by_values_lawful, put_and_call_ranged, limit_price_of, limit_price_ranged};
+ghost use Rattle.checks.specs.Known.{Verdict, InRange, case_of, known_after, by_values, by_values_lawful, put_and_call_ranged, limit_price_of, limit_price_ranged};
 
 use crate::checking::{Check, NO_CAUSE};
 use crate::pricing::limit_price;
@@ -24,19 +24,6 @@ pub struct Case {
     values: Values,
 }
 
-// What an entry asks for, with the role of its login. A function, since neither type is of this crate, whose own `From` it could be.
-fn request_numbers(asked: &Asked) -> RequestNumbers
-    ensures { result ≡ request_numbers asked.now }
-{
-    RequestNumbers {
-        role: asked.role,
-        side: asked.ticket.side,
-        kind: asked.ticket.kind,
-        marks: asked.ticket.marks,
-        price: asked.ticket.price,
-    }
-}
-
 impl Known {
     fn nothing() -> Known
         ensures { result.series ≡ replicate 16 Absent }
@@ -48,7 +35,7 @@ impl Known {
     fn case_of(&self, asked: &Asked) -> Option<Case>
         ensures { result ≡ case_of asked.now self.now.series }
     {
-        let request = Request::try_from(request_numbers(asked)).ok()?;
+        let request = Request::try_from(RequestNumbers::from(asked)).ok()?;
         let values = read_at(&self.series, asked.ticket.series, None)?;
         Some(Case { request, values })
     }

@@ -78,12 +78,7 @@ fn played_above(
     events: &mut [Event],
 ) -> Result<[Standing; 24], DayFault> {
     let item = filler()?;
-    let slip = Slip {
-        number: item.number,
-        side: item.side,
-        contracts: item.contracts,
-        price: item.price,
-    };
+    let slip = Slip::from(item);
     let mut entries = vec![in rt.alloc(); Slot { next: 0, item }; ENTRY_SLOTS]?;
     let mut slips = vec![in rt.alloc(); Slot {
         next: 0,

@@ -4,7 +4,7 @@ ghost use Rattle.std.specs.Prelude.{◌≡◌};
 ghost use Rattle.cudrelis.specs.Question.{request_in, conditions_in};
 
 use anyhow::anyhow;
-use checks::{Basis, Exemption, Judgement, judge_price};
+use checks::{Basis, Judgement, judge_price};
 use script::{Fault, Reader, numbers};
 use std::fmt;
 use std::io::{BufRead, BufReader};
@@ -49,14 +49,6 @@ fn conditions_in(fields: &[u64; 13]) -> ConditionNumbers
 #[derive(Drop)]
 struct Printed(Result<Judgement, Refusal>);
 
-fn exemption_word(exemption: Exemption) -> &'static str {
-    match exemption {
-        Exemption::Stop => "stop order",
-        Exemption::Sweep => "intermarket sweep",
-        Exemption::MarketMaker => "market-maker",
-    }
-}
-
 impl fmt::Display for Printed {
     fn fmt<W: fmt::Write>(&self, f: &mut fmt::Formatter<W>) -> fmt::Result {
         let judgement = match self.0 {
@@ -69,7 +61,7 @@ impl fmt::Display for Printed {
         }
         match judgement.basis {
             Basis::Quote => write!(f, ", no reference: quote"),
-            Basis::Exempt(exemption) => write!(f, ", no reference: {}", exemption_word(exemption)),
+            Basis::Exempt(exemption) => write!(f, ", no reference: {exemption}"),
             Basis::NoReference => write!(f, ", no reference"),
             Basis::Against {
                 reference,

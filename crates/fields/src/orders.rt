@@ -20,7 +20,7 @@ pub struct Named {
     pub number: OrderNumber,
 }
 
-// From numbers that have no type of their own that a `TryFrom` could take, as the opening below.
+// From numbers, as the opening below and a kill: in a tuple, which a `TryFrom` could take, they would lose their names.
 impl Named {
     pub fn from_numbers(login: u64, number: u64) -> Result<Named, Refusal>
         ensures { Admits (out_of_range (good_login login && good_number number)) (λ n. (n.login.value ≡ login) × (n.number.value ≡ number)) result }

@@ -47,6 +47,7 @@ pub struct Kill {
     pub block: bool,
 }
 
+// From numbers: in a tuple, which a `TryFrom` could take, they would lose their names.
 impl Kill {
     pub fn from_numbers(scope: ScopeNumber, reach: u64, block: u64) -> Result<Kill, Refusal>
         ensures { Admits (out_of_range (good_kill scope reach block)) (λ k. (reach_number k.reach ≡ reach) × (flag_number k.block ≡ block)) result }

@@ -7,10 +7,10 @@ ghost use Rattle.gate.specs.Kept.{state_of};
 ghost use Rattle.gate.specs.Rows.{seen_row};
 
 use crate::desk::Gate;
-use crate::rows::{BLANK, Row, first_cause};
+use crate::rows::{BLANK, Row};
 use checks::{Check, place, put_at, read_at};
 use market::Market;
-use terms::{Login, ScopeNumber};
+use terms::{Login, ScopeNumber, first_cause};
 
 const LOGINS: usize = 24;
 

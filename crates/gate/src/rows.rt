@@ -4,7 +4,7 @@ ghost use Rattle.std.specs.Prelude.{◌≡◌, true, false, cond, ◌&&◌, if�
 ghost use Rattle.history.specs.State.{is_free, is_open, is_leaving, blank, leaving, with_hold, with_out, first_cause};
 ghost use Rattle.gate.specs.Rows.{seen_row, session_of};
 
-use terms::Reach;
+use terms::{Reach, first_cause};
 
 /// What a firm has a login with: its acronym and its role, as the checks are told of them, and which kinds a trip sweeps.
 #[derive(Clone, Copy)]
@@ -36,13 +36,6 @@ pub(crate) const BLANK: Row = Row {
     hold: 0,
     out: false,
 };
-
-/// A hold keeps its first cause. It chooses as a pile does between the causes of two checks, whose choice is no part of what a check promises.
-pub(crate) fn first_cause(old: u8, new: u8) -> u8
-    ensures { result ≡ first_cause old new }
-{
-    if old == 0 { new } else { old }
-}
 
 // questions
 impl Row {
@@ -91,6 +84,7 @@ impl Row {
 
 // changes
 impl Row {
+    /// A hold keeps its first cause.
     pub(crate) fn hold(&mut self, cause: u8)
         ensures { seen_row self.new ≡ with_hold (first_cause (seen_row self.old).hold cause) (seen_row self.old) }
     {

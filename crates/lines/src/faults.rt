@@ -21,6 +21,7 @@ pub enum CallFault {
     Field { fault: FieldFault },
 }
 
+// By hand, since a clause names the fault that it makes.
 impl From<FieldFault> for CallFault {
     ghost from_gives = { λ x y. y ≡ Field x };
 

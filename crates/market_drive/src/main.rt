@@ -8,10 +8,10 @@ mod shown;
 
 use chains::Slot;
 use fault::Fault;
-use play::{Line, play, slip};
+use play::{Line, play};
 use std::io;
 use tables::{ENTRY_SLOTS, SLIP_SLOTS};
-use terms::{Entry, Kind, Side};
+use terms::{Entry, Kind, Side, Slip};
 use time_market::TimeMarket;
 
 fn by_time(rt: &HostRuntime) -> Result<(), Fault> {
@@ -30,7 +30,7 @@ fn by_time(rt: &HostRuntime) -> Result<(), Fault> {
     }; ENTRY_SLOTS];
     let mut slips = [Slot {
         next: 0,
-        item: slip(blank),
+        item: Slip::from(blank),
     }; SLIP_SLOTS];
     let mut market = TimeMarket::try_new(&mut entries, &mut slips)?;
     println!(rt; "price, then time")?;

@@ -57,16 +57,6 @@ impl fmt::Display for Line {
     }
 }
 
-/// The slip of an entry. A function, since neither is of this crate, whose own `From` it could be.
-pub(crate) fn slip(entry: Entry) -> Slip {
-    Slip {
-        number: entry.number,
-        side: entry.side,
-        contracts: entry.contracts,
-        price: entry.price,
-    }
-}
-
 fn rest<M: Market>(rt: &HostRuntime, market: &mut M, line: Line) -> Result<(), Fault> {
     let series = Series::try_from(line.series)?;
     let entry = Entry::try_from(line)?;

@@ -3,7 +3,6 @@
 ghost use Rattle.std.specs.Prelude.{◌≡◌, []};
 ghost use Rattle.terms.specs.Kinds.{side_number};
 ghost use Rattle.tables.specs.Held.{book_of, resting_of};
-ghost use Rattle.size_market.specs.Size.{other_side};
 ghost use Rattle.size_market.specs.Going.{Going};
 ghost use Rattle.size_market.specs.Steps.{Current, IsDue};
 
@@ -13,23 +12,13 @@ use shares::share;
 use tables::Tables;
 use terms::{Contracts, Side};
 
-/// The side that a side trades with. A function, since `Side` is of another crate, which alone can give it a method.
-fn other_side(side: Side) -> Side
-    ensures { side_number result ≡ other_side (side_number side) }
-{
-    match side {
-        Side::Buy => Side::Sell,
-        Side::Sell => Side::Buy,
-    }
-}
-
 /// The round that the lowest series that crosses opens.
 fn open_round(tables: &Tables<'_>) -> Option<Round>
     ensures { Current (book_of tables.now) [] result }
 {
     let crossing = tables.crossing()?;
     let (maker, taker) = tables.by_age(crossing);
-    let rest = tables.makers_sum(crossing.series, other_side(taker.side), maker.price);
+    let rest = tables.makers_sum(crossing.series, taker.side.other(), maker.price);
     Some(Round {
         series: crossing.series,
         taker,
@@ -60,7 +49,7 @@ pub(crate) fn next_due(tables: &Tables<'_>, round: Round) -> Due
     requires { Going (resting_of tables.now) round }
     ensures { IsDue (resting_of tables.now) round result }
 {
-    let side = other_side(round.taker.side);
+    let side = round.taker.side.other();
     // Counted by hand: the tables give a maker by how many come before it, and no iterator over them.
     let (mut passed, mut rest) = (round.passed, round.rest);
     while let Some(maker) = tables.maker(round.series, side, round.price, passed) {

@@ -166,20 +166,10 @@ impl<'a> Tables<'a> {
         self.trade_side(crossing.series, buy, contracts, price);
         self.trade_side(crossing.series, sell, contracts, price);
         Trade {
-            buyer: party(buy),
-            seller: party(sell),
+            buyer: buy.into(),
+            seller: sell.into(),
             contracts: contracts.into(),
             price: price.into(),
         }
-    }
-}
-
-/// Who has an entry, and under which number. A function, since neither type is of this crate, whose own `From` it could be.
-fn party(entry: Entry) -> Party
-    ensures { result ≡ record { login = entry.login.value; number = entry.number.value } }
-{
-    Party {
-        login: entry.login.into(),
-        number: entry.number.into(),
     }
 }

@@ -1,5 +1,5 @@
--- An answer of enter in numbers: the one that says how the entry fared, and what came of it. Assumes nothing.
-use Rattle.std.specs.Prelude.{ℕ}
+-- An answer of enter in numbers: the one that says how the entry fared, and what came of it; and which of two causes counts. Assumes nothing.
+use Rattle.std.specs.Prelude.{ℕ, cond, ◌==◌}
 use Rattle.terms.specs.declared.events.Effect.{Effect}
 use Rattle.terms.specs.declared.events.EnterAnswer.{EnterAnswer}
 use Rattle.terms.specs.declared.events.EnterAnswer.TheVariants.{Accepted, TurnedDown, Refused}
@@ -16,3 +16,7 @@ abbrev pub entered_effect : EnterAnswer → Effect
 entered_effect (Accepted e) = e
 entered_effect (TurnedDown n e) = e
 entered_effect (Refused x c) = record { causes = c; cancelled = 0 }
+
+-- the first of two causes that is not 0
+abbrev pub first_nonzero : ℕ → ℕ → ℕ
+first_nonzero one other = cond (one == 0) other one

@@ -30,6 +30,10 @@ side_number Sell = 2
 abbrev pub side : ℕ → Option Side
 side = named side_number (Buy ∷ Sell ∷ [])
 
+abbrev pub other_side : Side → Side
+other_side Buy = Sell
+other_side Sell = Buy
+
 abbrev pub side_word : Side → List ℕ
 side_word Buy = codes "buy"
 side_word Sell = codes "sell"

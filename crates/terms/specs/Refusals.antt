@@ -1,8 +1,8 @@
 -- The number and the word of each refusal: the one place for both. Assumes nothing.
-use Rattle.std.specs.Prelude.{◌≡◌, ℕ, List, [], ◌∷◌, ◌++◌, Some, None, Ok, Err, Option, Result, codes, decimal}
+use Rattle.std.specs.Prelude.{◌≡◌, ℕ, List, [], ◌∷◌, ◌++◌, Some, None, Ok, Err, Option, Result, codes, decimal, ◌==◌}
 use Rattle.terms.specs.declared.refusal.Refusal.{Refusal}
 use Rattle.terms.specs.declared.refusal.UnknownNumber.{UnknownNumber}
-use Rattle.terms.specs.Kinds.{named}
+use Rattle.std.specs.List.{find}
 use Rattle.terms.specs.declared.refusal.Refusal.TheVariants.{Field, ShortTable, NotEmpty, NotOpen, Taken, Leaving, ClockBack, NoOrder, NoSlip, SlipOut, WrongSlip, NoValues, Held, InUse, Allotment, SlipsFull, TooLarge, PutAndCall, LimitPrice}
 
 abbrev pub number : Refusal → ℕ
@@ -59,7 +59,7 @@ refusals =
 
 -- the refusal that has a number
 abbrev pub refusal_of : ℕ → Option Refusal
-refusal_of = named number refusals
+refusal_of n = find (λ x. number x == n) refusals
 
 -- A number is read as the refusal that has it, and handed back where none has.
 abbrev pub ReadsRefusal : ℕ → Result Refusal UnknownNumber → Type 0

@@ -1,5 +1,7 @@
 //! What rests and what waits in a market.
 
+ghost use Rattle.std.specs.Prelude.{◌≡◌};
+
 use crate::kinds::{Kind, Side};
 use crate::ranges::{Contracts, Login, OrderNumber, Price};
 
@@ -21,4 +23,18 @@ pub struct Slip {
     pub side: Side,
     pub contracts: Contracts,
     pub price: Price,
+}
+
+/// The slip of a whole entry.
+impl From<Entry> for Slip {
+    ghost from_gives = { λ e s. s ≡ record { number = e.number; side = e.side; contracts = e.contracts; price = e.price } };
+
+    fn from(entry: Entry) -> Slip {
+        Slip {
+            number: entry.number,
+            side: entry.side,
+            contracts: entry.contracts,
+            price: entry.price,
+        }
+    }
 }

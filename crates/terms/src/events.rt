@@ -3,6 +3,7 @@
 ghost use Rattle.std.specs.Prelude.{◌≡◌};
 ghost use Rattle.terms.specs.Entered.{entered_number, entered_effect};
 
+use crate::entries::Entry;
 use crate::messages::{Causes, Fill, LimitNumbers, ScopeNumber, Ticket};
 use crate::refusal::Refusal;
 use crate::values::ValueNumbers;
@@ -106,6 +107,18 @@ impl EnterAnswer {
 pub struct Party {
     pub login: u64,
     pub number: u64,
+}
+
+/// Who has an entry, and under which number.
+impl From<Entry> for Party {
+    ghost from_gives = { λ e p. p ≡ record { login = e.login.value; number = e.number.value } };
+
+    fn from(entry: Entry) -> Party {
+        Party {
+            login: entry.login.into(),
+            number: entry.number.into(),
+        }
+    }
 }
 
 #[derive(Clone, Copy, Debug, PartialEq, Eq)]

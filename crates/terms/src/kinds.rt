@@ -1,8 +1,8 @@
 //! The words that have few values, and how a plain number becomes one of them.
 
-ghost use Rattle.std.specs.Prelude.{◌≡◌, Some};
+ghost use Rattle.std.specs.Prelude.{◌≡◌, ◌-◌, Some};
 ghost use Rattle.terms.specs.Ranges.{ReadAs};
-ghost use Rattle.terms.specs.Kinds.{side, side_number, side_word, kind, kind_number, role, role_number, marks, marks_number, reach, reach_number, option_type, option_type_number, class, class_number, phase, phase_number, limit_kind, limit_kind_number, flag_of, flag_number};
+ghost use Rattle.terms.specs.Kinds.{side, side_number, side_word, other_side, kind, kind_number, role, role_number, marks, marks_number, reach, reach_number, option_type, option_type_number, class, class_number, phase, phase_number, limit_kind, limit_kind_number, flag_of, flag_number};
 
 use crate::refusal::Refusal;
 use std::fmt;
@@ -70,6 +70,19 @@ pub enum LimitKind {
     Fills,
     TurnDowns,
     Size,
+}
+
+impl Side {
+    /// The side that it trades with.
+    pub fn other(self) -> Side
+        ensures value { result ≡ other_side self }
+        ensures number { side_number result ≡ 3 - side_number self }
+    {
+        match self {
+            Side::Buy => Side::Sell,
+            Side::Sell => Side::Buy,
+        }
+    }
 }
 
 impl TryFrom<u64> for Side {

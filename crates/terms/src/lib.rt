@@ -15,7 +15,7 @@ pub use bounded::Bounded;
 pub use entries::{Entry, Slip};
 pub use events::{Call, Effect, EnterAnswer, Event, Party, Struck, Trade};
 pub use kinds::{Class, Kind, LimitKind, Marks, OptionType, Phase, Reach, Role, Side, flag};
-pub use messages::{Asked, Causes, Fill, LimitNumbers, Notice, ScopeNumber, Ticket};
+pub use messages::{Asked, Causes, Fill, LimitNumbers, Notice, ScopeNumber, Ticket, first_cause};
 pub use ranges::{
     Acronym, Contracts, Interval, Limit, Login, OrderNumber, Price, Series, Time, TurnDown,
     optional_price,

@@ -1,5 +1,8 @@
 //! What is sent to a gate and told to its checks, in plain numbers: any number can be sent, and is refused where it is out of its range.
 
+ghost use Rattle.std.specs.Prelude.{◌≡◌};
+ghost use Rattle.terms.specs.Entered.{first_nonzero};
+
 use crate::values::ValueNumbers;
 
 /// A login, or a firm with all its logins.
@@ -95,4 +98,11 @@ pub enum Notice {
 pub struct Causes {
     pub login: u8,
     pub acronym: u8,
+}
+
+/// The first of two causes that is not 0.
+pub fn first_cause(one: u8, other: u8) -> u8
+    ensures { result ≡ first_nonzero one other }
+{
+    if one == 0 { other } else { one }
 }

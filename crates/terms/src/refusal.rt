@@ -1,7 +1,7 @@
 //! Why a call is refused, with the number and the word that the venue knows it by.
 
 ghost use Rattle.std.specs.Prelude.{◌≡◌, Some};
-ghost use Rattle.terms.specs.Refusals.{number as number_of, word as word_of, ReadsRefusal, refusal_text};
+ghost use Rattle.terms.specs.Refusals.{number as number_of, word as word_of, ReadsRefusal, refusal_of, refusal_text};
 
 use std::fmt;
 
@@ -33,6 +33,38 @@ pub enum Refusal {
 pub struct UnknownNumber(pub u8);
 
 impl Refusal {
+    const ALL: [Refusal; 19] = [
+        Refusal::Field,
+        Refusal::ShortTable,
+        Refusal::NotEmpty,
+        Refusal::NotOpen,
+        Refusal::Taken,
+        Refusal::Leaving,
+        Refusal::ClockBack,
+        Refusal::NoOrder,
+        Refusal::NoSlip,
+        Refusal::SlipOut,
+        Refusal::WrongSlip,
+        Refusal::NoValues,
+        Refusal::Held,
+        Refusal::InUse,
+        Refusal::Allotment,
+        Refusal::SlipsFull,
+        Refusal::TooLarge,
+        Refusal::PutAndCall,
+        Refusal::LimitPrice,
+    ];
+
+    /// The one that has this number.
+    fn numbered(number: u8) -> Option<Refusal>
+        ensures { result ≡ refusal_of number }
+    {
+        Refusal::ALL
+            .iter()
+            .copied()
+            .find(|refusal| refusal.number() == number)
+    }
+
     pub fn number(self) -> u8
         ensures { result ≡ number_of self }
     {
@@ -72,29 +104,7 @@ impl TryFrom<u8> for Refusal {
     ghost try_from_gives = { ReadsRefusal };
 
     fn try_from(number: u8) -> Result<Refusal, UnknownNumber> {
-        let refusal = match number {
-            1 => Refusal::Field,
-            2 => Refusal::ShortTable,
-            3 => Refusal::NotEmpty,
-            11 => Refusal::NotOpen,
-            12 => Refusal::Taken,
-            13 => Refusal::Leaving,
-            14 => Refusal::ClockBack,
-            15 => Refusal::NoOrder,
-            16 => Refusal::NoSlip,
-            17 => Refusal::SlipOut,
-            18 => Refusal::WrongSlip,
-            19 => Refusal::NoValues,
-            21 => Refusal::Held,
-            31 => Refusal::InUse,
-            32 => Refusal::Allotment,
-            33 => Refusal::SlipsFull,
-            41 => Refusal::TooLarge,
-            42 => Refusal::PutAndCall,
-            43 => Refusal::LimitPrice,
-            _ => return Err(UnknownNumber(number)),
-        };
-        Ok(refusal)
+        Refusal::numbered(number).ok_or(UnknownNumber(number))
     }
 }
 

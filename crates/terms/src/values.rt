@@ -5,7 +5,7 @@ ghost use Rattle.terms.specs.Ranges.{or_field};
 ghost use Rattle.terms.specs.Values.{scope, bid_offer, conditions, values, request};
 
 use crate::kinds::{Class, Kind, Marks, OptionType, Phase, Role, Side, flag};
-use crate::messages::ScopeNumber;
+use crate::messages::{Asked, ScopeNumber};
 use crate::ranges::{Acronym, Login, Price, optional_price};
 use crate::refusal::Refusal;
 
@@ -85,6 +85,21 @@ pub struct RequestNumbers {
     pub price: u64,
 }
 
+/// What a ticket asks for, with the role of its login.
+impl From<&Asked> for RequestNumbers {
+    ghost from_gives = { λ k n. n ≡ record { role = k.now.role; side = k.now.ticket.side; kind = k.now.ticket.kind; marks = k.now.ticket.marks; price = k.now.ticket.price } };
+
+    fn from(asked: &Asked) -> RequestNumbers {
+        RequestNumbers {
+            role: asked.role,
+            side: asked.ticket.side,
+            kind: asked.ticket.kind,
+            marks: asked.ticket.marks,
+            price: asked.ticket.price,
+        }
+    }
+}
+
 impl TryFrom<ScopeNumber> for Scope {
     type Error = Refusal;
 
@@ -99,7 +114,7 @@ impl TryFrom<ScopeNumber> for Scope {
 }
 
 impl BidOffer {
-    /// From two numbers, which have no type of their own that a `TryFrom` could take.
+    /// From two numbers: in a tuple, which a `TryFrom` could take, they would lose their names.
     #[tactic(auto, unfolding(crate::specs::Values::bid_offer))]
     pub fn from_numbers(bid: u64, offer: u64) -> Result<BidOffer, Refusal>
         ensures { result ≡ or_field (bid_offer bid offer) }

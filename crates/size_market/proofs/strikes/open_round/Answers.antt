@@ -12,8 +12,8 @@ use Rattle.size_market.proofs.strikes.open_round.Goals as goal
 pub returns : goal.returns
 returns c =
     let t = c.args.tables.now in
-    opens (book_of t) c.in_ok-crossing.crossing.series (seen_crossing c.in_ok-crossing.crossing).pair c.by_age.result.1 c.by_age.result.0 (side_number c.other_side.result) c.min.result c.makers_sum-rest.result
-    t.apart c.in_ok-crossing.ensures c.by_age.ensures.younger c.by_age.ensures.older c.other_side.ensures
+    opens (book_of t) c.in_ok-crossing.crossing.series (seen_crossing c.in_ok-crossing.crossing).pair c.by_age.result.1 c.by_age.result.0 (side_number c.other.result) c.min.result c.makers_sum-rest.result
+    t.apart c.in_ok-crossing.ensures c.by_age.ensures.younger c.by_age.ensures.older c.other.ensures.number
     c.makers_sum-rest.ensures.sum c.makers_sum-rest.ensures.bound (c.min.ensures ∙ ap (λ n. min n c.makers_sum-rest.result) c.from.ensures)
 
 pub returns-in_err-crossing : goal.returns-in_err-crossing

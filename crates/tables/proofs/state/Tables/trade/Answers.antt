@@ -21,7 +21,7 @@ returns-clause-struck c =
     let sell = seen x.sell in
     let n = c.args.contracts.value in
     let price = c.args.price.value in
-    let is = trade_is buy sell n price _ _ _ _ c.party.ensures c.party-2.ensures c.into.ensures c.into-2.ensures in
+    let is = trade_is buy sell n price _ _ _ _ c.into.ensures c.into-2.ensures c.into-3.ensures c.into-4.ensures in
     struck_so (book_of t) (book_of c.trade_side-2.new.self) (x.series.value - 1) buy sell n price _ is
     (omega (arith, c.facts.ensures.series, x.series.high)) c.requires.meet c.requires.fair c.requires.room
     (both_sides (book_of t) (book_of c.trade_side.new.self) (book_of c.trade_side-2.new.self) buy sell n price c.requires.meet.buys c.requires.meet.sells

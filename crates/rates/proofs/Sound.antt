@@ -7,7 +7,7 @@ use Rattle.std.proofs.lemmas.Bool.{and_parts, or_parts, not-true}
 use Rattle.rates.specs.declared.window.Mark.{Mark}
 use Rattle.rates.specs.Marks.{mark, counts, counted, counting, amount_of, reaches, brings, tripped, trips}
 use Rattle.rates.specs.Views.{View, idle, over, still, answers, stops, adds, after, empty}
-use Rattle.rates.specs.Runs.{Act, event, clearing, limiting, aside, lived, in_force, since, newest, Ordered, AnswersSince, StopsSince, WeighsSince, TripsBelow}
+use Rattle.rates.specs.Runs.{Act, event, clearing, limiting, aside, lived, in_force, since, newest, Ordered, AsDefined, AnswersSince, StopsSince, WeighsSince, TripsBelow}
 
 module _ {X : Type 0} (p q : X → Bool) (falls : (x : X) → p x ≡ false → q x ≡ false) where
   -- what p drops q would drop too
@@ -140,8 +140,8 @@ pub weighs_since : WeighsSince
 weighs_since acts o on n le f =
     subst (λ (b : ℕ × ℕ). sum_by f (counted n b.1 (lived acts).kept) ≡ sum_by f (counted n b.1 (since acts))) (lived_bound acts) ((lived_sound acts o).weighs on n le f)
 
-pub as_defined : (acts : List Act) (r : Bool) (t a : ℕ) (v : View) → newest (since acts) ≤ t → Ordered (since acts) → v ≡ lived acts → r ≡ answers t a v → r ≡ trips (in_force acts).0 (in_force acts).1 (mark t a) (since acts)
-as_defined acts r t a v low o is e = e ∙ ap (answers t a) is ∙ answers_since acts (mark t a) (low, o)
+pub as_defined : (r : Bool) (t a : ℕ) (v : View) → r ≡ answers t a v → AsDefined r t a v
+as_defined r t a v e acts o is = e ∙ ap (answers t a) is ∙ answers_since acts (mark t a) o
 
 -- a filter keeps no more than there was
 keeps_less : (p : Mark → Bool) (ms : List Mark) → amount_of (filter p ms) ≤ amount_of ms

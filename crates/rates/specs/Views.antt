@@ -1,5 +1,5 @@
 -- What a window keeps, and what becomes of it. Assumes nothing.
-use Rattle.std.specs.Prelude.{ℕ, Bool, true, false, cond, not, ◌&&◌, ◌||◌, List, [], ◌∷◌, ◌++◌, ◌==◌}
+use Rattle.std.specs.Prelude.{ℕ, Bool, true, false, cond, not, ◌&&◌, ◌||◌, List, [], ◌∷◌, ◌++◌, take, ◌==◌}
 use Rattle.rates.specs.declared.window.Mark.{Mark}
 use Rattle.rates.specs.declared.window.Window.{Window}
 use Rattle.rates.specs.Marks.{mark, counted, reaches}
@@ -12,7 +12,7 @@ pub record View : Type 0 where
   pub kept : List Mark
 
 abbrev pub view : Window → View
-view w = record { limit = w.limit; interval = w.interval; stopped = w.tripped; kept = w.marks.items }
+view w = record { limit = w.limit; interval = w.interval; stopped = w.tripped; kept = take w.used w.marks }
 
 -- a limit, and nothing counted yet
 abbrev pub empty : (limit interval : ℕ) → View

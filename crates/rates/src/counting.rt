@@ -1,18 +1,28 @@
 //! What one window does: it takes a limit, is cleared, and counts.
 
-ghost use Rattle.std.specs.Prelude.{◌≡◌, ◌-◌, ◌^◌, ◌∷◌, min};
-ghost use Rattle.rates.specs.Marks.{counted, amount_of, reaches};
+ghost use Rattle.std.specs.Prelude.{◌≡◌, ◌-◌, ◌^◌, ◌≤◌, min, length, take};
+ghost use Rattle.rates.specs.Marks.{counted, amount_of};
 ghost use Rattle.rates.specs.Views.{view, empty, cleared, answers, after};
 ghost use Rattle.rates.specs.Runs.{AsDefined, AnswersSince, StopsSince, WeighsSince, TripsBelow};
 
 use crate::window::{Mark, Window};
-use arrayvec::ArrayVec;
 
-// Drops what no longer counts.
-fn prune(marks: &mut ArrayVec<Mark, 31>, time: u64, interval: u64)
-    ensures { marks.new.items ≡ counted time interval marks.old.items }
+// Moves what still counts of the first `used` marks to the front, in its order, and says how many those are. By index, since it writes the
+// array that it reads.
+fn prune(marks: &mut [Mark], used: usize, time: u64, interval: u64) -> usize
+    requires { used ≤ length marks.old }
+    ensures kept { take result marks.new ≡ counted time interval (take used marks.old) }
+    ensures small { result ≤ used }
 {
-    marks.retain(|mark| time.saturating_sub(mark.time) < interval);
+    let mut k = 0;
+    for i in 0..used {
+        let m = marks[i];
+        if time.saturating_sub(m.time) < interval {
+            marks[k] = m;
+            k += 1;
+        }
+    }
+    k
 }
 
 // What the marks come to; as much as fits where it is more.
@@ -32,7 +42,8 @@ impl Window {
             limit: 0,
             interval: 0,
             tripped: false,
-            marks: ArrayVec::new(),
+            used: 0,
+            marks: [Mark { time: 0, amount: 0 }; 31],
         }
     }
 
@@ -40,7 +51,7 @@ impl Window {
         ensures { view self.new ≡ cleared (view self.old) }
     {
         self.tripped = false;
-        self.marks.clear();
+        self.used = 0;
     }
 
     pub(crate) fn limit_to(&mut self, limit: u64, interval: u64)
@@ -51,17 +62,7 @@ impl Window {
         self.clear();
     }
 
-    // Whether one mark more brings them to the limit, or to thirty-two.
-    #[tactic(auto, using(crate::proofs::Steps::by_sum, crate::proofs::Steps::by_number, crate::proofs::Steps::not_yet))]
-    fn is_reached_by(&self, mark: Mark) -> bool
-        ensures { result ≡ reaches self.now.limit (mark ∷ self.now.marks.items) }
-    {
-        let total = weight(self.marks.as_slice()).saturating_add(mark.amount);
-        total >= self.limit || self.marks.is_full()
-    }
-
     // Does the event trip the window?
-    #[tactic(auto, using(crate::proofs::Steps::room, crate::proofs::Steps::answers_on, crate::proofs::Sound::as_defined))]
     pub(crate) fn count(&mut self, time: u64, amount: u64) -> bool
         ensures trip { result ≡ answers time amount (view self.old) }
         ensures defined { AsDefined result time amount (view self.old) }
@@ -70,14 +71,15 @@ impl Window {
         if self.limit == 0 || self.tripped {
             return false;
         }
-        prune(&mut self.marks, time, self.interval);
-        let mark = Mark { time, amount };
-        if self.is_reached_by(mark) {
+        let used = prune(&mut self.marks, self.used as usize, time, self.interval);
+        let total = weight(&self.marks[..used]).saturating_add(amount);
+        if total >= self.limit || used == 31 {
             self.tripped = true;
-            self.marks.clear();
+            self.used = 0;
             return true;
         }
-        self.marks.push(mark);
+        self.marks[used] = Mark { time, amount };
+        self.used = used as u8 + 1;
         false
     }
 }

@@ -1,6 +1,6 @@
 //! The windows of a firm: its own, and those of the logins.
 
-ghost use Rattle.std.specs.Prelude.{◌≡◌, map, if◌then◌else◌};
+ghost use Rattle.std.specs.Prelude.{◌≡◌, map, replicate, if◌then◌else◌};
 ghost use Rattle.terms.specs.Tables.{at};
 ghost use Rattle.checks.specs.Places.{numbered};
 ghost use Rattle.rates.specs.Scopes.{scope_view, new_scope, scope_told, scope_cause};
@@ -36,6 +36,15 @@ fn tell_login(logins: &mut [ScopeWindows; 24], notice: Notice, time: u64) -> u8
     }
 }
 
+// In place, for the reason that `renew` of `Rates` gives.
+fn renew_logins(logins: &mut [ScopeWindows; 24])
+    ensures { map scope_view logins.new ≡ replicate 24 new_scope }
+{
+    for scope in logins.iter_mut() {
+        scope.renew();
+    }
+}
+
 impl FirmWindows {
     pub(crate) fn new() -> FirmWindows
         ensures { firm_view result ≡ new_firm }
@@ -44,6 +53,13 @@ impl FirmWindows {
             own: ScopeWindows::new(),
             logins: array::from_fn(|_| ScopeWindows::new()),
         }
+    }
+
+    pub(crate) fn renew(&mut self)
+        ensures { firm_view self.new ≡ new_firm }
+    {
+        self.own.renew();
+        renew_logins(&mut self.logins);
     }
 
     pub(crate) fn tell(&mut self, notice: Notice, time: u64) -> Causes

@@ -14,6 +14,15 @@ use checks::{Check, NO_CAUSE, acronym_of, place};
 use std::array;
 use terms::{Asked, Causes, Notice, TurnDown};
 
+// In place, for the reason that `renew` gives.
+fn renew_firms(firms: &mut [FirmWindows; 8])
+    ensures { map firm_view firms.new ≡ replicate 8 new_firm }
+{
+    for firm in firms.iter_mut() {
+        firm.renew();
+    }
+}
+
 impl Rates {
     /// At time 0, without any limit.
     pub fn new() -> Rates
@@ -49,15 +58,19 @@ impl Check for Rates {
         ensures trips { result ≡ told_causes rates notice self.old.time (at new_firm (map firm_view self.old.firms) (whose notice)) }
         ensures defined { AsTold result notice self.old.time (map firm_view self.old.firms) }
     {
-        let time = self.time;
-        self.time = time_after(&notice, time);
+        // Taken apart: the check does not follow a change of one of the firms beside the clock's.
+        let Rates { time: clock, firms } = self;
+        let time = *clock;
+        *clock = time_after(&notice, time);
         match place(acronym_of(&notice), 8) {
-            Some(a) => self.firms[a].tell(notice, time),
+            Some(a) => firms[a].tell(notice, time),
             None => NO_CAUSE,
         }
     }
 
+    // In place: with `*self = Rates::new()` all marks of all windows would be written, which are some 300 kB.
     fn renew(&mut self) {
-        *self = Rates::new();
+        self.time = 0;
+        renew_firms(&mut self.firms);
     }
 }

@@ -14,7 +14,7 @@ pub enum Rate {
 }
 
 /// The windows of a login, or of a firm as a whole.
-#[derive(Drop)]
+#[derive(Clone, Copy)]
 pub struct ScopeWindows {
     pub(crate) entries: Window,
     pub(crate) fills: Window,
@@ -22,7 +22,7 @@ pub struct ScopeWindows {
 }
 
 /// The windows of a firm: its own, and those of the logins.
-#[derive(Drop)]
+#[derive(Clone, Copy)]
 pub struct FirmWindows {
     pub(crate) own: ScopeWindows,
     pub(crate) logins: [ScopeWindows; 24],

@@ -12,6 +12,7 @@ use Rattle.terms.specs.declared.messages.LimitNumbers.{LimitNumbers}
 use Rattle.terms.specs.declared.messages.Notice.{Notice}
 use Rattle.terms.specs.declared.messages.Notice.TheVariants.{Ticked, Limited, Entered, Filled}
 use Rattle.terms.specs.declared.messages.ScopeNumber.TheVariants.{Acronym}
+use Rattle.terms.specs.Refusals.{number}
 use Rattle.terms.specs.Tables.{at}
 use Rattle.terms.specs.Values.{request, values}
 use Rattle.checks.specs.declared.desk.Judgement.{Judgement}
@@ -126,6 +127,12 @@ answered (Err x) = Refused x
 -- by the cause that a firm has, 0 for none
 abbrev pub of_cause : (cause : ℕ) → Answer
 of_cause cause = cond (cause == 0) Passes (Trips cause)
+
+-- the number that an answer is printed as: 0 where nothing is refused and nothing trips
+abbrev pub answer_number : Answer → ℕ
+answer_number Passes = 0
+answer_number (Refused x) = number x
+answer_number (Trips cause) = cause
 
 -- what limit price answers, also where a field is refused
 abbrev pub priced_answer : Option Judgement → Result (Unit {0}) Refusal

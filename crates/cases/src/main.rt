@@ -5,7 +5,7 @@
 mod table;
 
 use std::{fmt, io};
-use table::{Answer, Burst, Case, Event, Question, answer_to, worked};
+use table::{Burst, Case, Event, Question, answer_to, worked};
 use terms::{ConditionNumbers, Side};
 
 /// A side by its number, which a question has as it is sent: by its word, where it is the number of one.
@@ -80,17 +80,6 @@ impl fmt::Display for Question {
                     "window {kind}: limit {most} in {interval} ms, {first}, {second}, {last}"
                 )
             }
-        }
-    }
-}
-
-/// Its number: 0 where nothing is refused and nothing trips.
-impl fmt::Display for Answer {
-    fn fmt<W: fmt::Write>(&self, f: &mut fmt::Formatter<W>) -> fmt::Result {
-        match *self {
-            Answer::Passes => f.write_str("0"),
-            Answer::Refused(refusal) => write!(f, "{}", refusal.number()),
-            Answer::Trips(cause) => write!(f, "{cause}"),
         }
     }
 }

@@ -1,15 +1,16 @@
 //! The worked cases: what is asked, in plain numbers, and the answer that is due.
 
-ghost use Rattle.std.specs.Prelude.{◌≡◌, List, [], ◌∷◌};
+ghost use Rattle.std.specs.Prelude.{◌≡◌, List, [], ◌∷◌, Some, decimal};
 ghost use Rattle.terms.specs.Values.{request as request_of, values as values_of};
 ghost use Rattle.checks.specs.Desk.{judgement};
 ghost use Rattle.terms.specs.declared.messages.Notice.{Notice};
 ghost use Rattle.terms.specs.declared.messages.Notice.TheVariants.{Ticked, Limited};
-ghost use Rattle.cases.specs.Cases.{answer_to, order as order_at, market as market_in, put as put_of, priced as priced_case, bought as bought_case, windows as windows_case, entry as entry_at, fill as fill_at, many as many_of, limit_for_firm, notice_of, answered, of_cause, told, cause_at, cases as worked_cases, priced_answer, bought_answer, AllAsDue, AllAsDefined};
+ghost use Rattle.cases.specs.Cases.{answer_to, order as order_at, market as market_in, put as put_of, priced as priced_case, bought as bought_case, windows as windows_case, entry as entry_at, fill as fill_at, many as many_of, limit_for_firm, notice_of, answered, of_cause, answer_number, told, cause_at, cases as worked_cases, priced_answer, bought_answer, AllAsDue, AllAsDefined};
 ghost use Rattle.cases.specs.Playing.{Stands, GoesOn};
 
 use checks::{Check, judge_price, put_and_call};
 use rates::Rates;
+use std::fmt;
 use terms::{
     Asked, ConditionNumbers, Fill, LimitNumbers, Notice, Refusal, Request, RequestNumbers,
     ScopeNumber, Ticket, ValueNumbers, Values,
@@ -93,6 +94,26 @@ impl Answer {
             0 => Answer::Passes,
             _ => Answer::Trips(cause),
         }
+    }
+
+    // Its number: 0 where nothing is refused and nothing trips.
+    fn number(self) -> u8
+        ensures { result ≡ answer_number self }
+    {
+        match self {
+            Answer::Passes => 0,
+            Answer::Refused(refusal) => refusal.number(),
+            Answer::Trips(cause) => cause,
+        }
+    }
+}
+
+/// Its number.
+impl fmt::Display for Answer {
+    ghost output = { λ x. Some (decimal (answer_number x)) };
+
+    fn fmt<W: fmt::Write>(&self, f: &mut fmt::Formatter<W>) -> fmt::Result {
+        write!(f, "{}", self.number())
     }
 }
 

@@ -1,5 +1,5 @@
 -- The questions and changes of one list: what an item more at its front or in its middle does to them.
-use Rattle.std.proofs.Common.{◌≡◌, ℕ, zero, suc, ◌+◌, ◌^◌, ◌<◌, Bool, true, false, cond, List, [], ◌∷◌, ◌++◌, get_or, drop, Some, None, fold, sum_by, filter, Option, sym, refl, ap, ◌∙◌, subst, ⊎_elim, arith}
+use Rattle.std.proofs.Common.{◌≡◌, ℕ, zero, suc, ◌+◌, ◌-◌, ◌^◌, ◌<◌, Bool, true, false, cond, List, [], ◌∷◌, ◌++◌, length, get_or, drop, Some, None, fold, sum_by, filter, Option, sym, refl, ap, ◌∙◌, subst, ⊎_elim, arith}
 use Rattle.std.specs.Cmp.{IsStrictWeakOrder}
 use Rattle.std.specs.List.{best_of, slice_get, reduce}
 use Rattle.std.proofs.lemmas.List.MinMax.{IsFirstBest-from_best_of}
@@ -46,7 +46,17 @@ became p zs xs after r ea er = rw (ea, er) (as_defined xs)
         (λ (e : p y ≡ false). rw (kept_no p y ys e, cond-false (p y) (zs ++ ys) (y ∷ first_becomes p zs ys) e) (became_later p zs y ys _ _ e (as_defined ys)))
         (cases_Bool (p y))
 
+-- ---- the test that every item meets
+
+pub kept_any : {X : Type 0} (xs : List X) → filter (λ _. true) xs ≡ xs
+kept_any [] = refl
+kept_any (x ∷ xs) = ap (λ v. x ∷ v) (kept_any xs)
+
 -- ---- sums: n is the sum so far
+
+pub sum_ones : {X : Type 0} (xs : List X) → sum_by (λ _. 1) xs ≡ length xs
+sum_ones [] = refl
+sum_ones (x ∷ xs) = sum_by-cons (λ _. 1) x xs ∙ omega (arith, sum_ones xs)
 
 pub sum_yes : {X : Type 0} (w : X → ℕ) (p : X → Bool) (n n' : ℕ) (x : X) (ys : List X) → p x ≡ true → n' ≡ saturated (n + w x) → saturated (n' + sum_by w (filter p ys)) ≡ saturated (n + sum_by w (filter p (x ∷ ys)))
 sum_yes w p n n' x ys e en = omega (arith, en, ap (sum_by w) (kept_yes p x ys e), sum_by-cons w x (filter p ys))
@@ -89,3 +99,9 @@ oldest_drop zero [] = refl
 oldest_drop zero (x ∷ xs) = refl
 oldest_drop (suc n) [] = refl
 oldest_drop (suc n) (x ∷ xs) = oldest_drop n xs
+
+-- ---- the item after n others
+
+pub drop_less : {X : Type 0} (n : ℕ) (x : X) (xs : List X) → 0 < n → drop n (x ∷ xs) ≡ drop (n - 1) xs
+drop_less zero x xs h = absurd (omega arith)
+drop_less (suc n) x xs h = ap (λ m. drop m xs) (omega arith)

@@ -136,9 +136,9 @@ impl<'g, M: Market, C: Check> Gate<'g, M, C> {
         ensures keeps { Keeps (state_of M.Market C.Check self.old) (take result events.new) (state_of M.Market C.Check self.new) }
     {
         let count = calls.len().min(events.len());
-        // By place: what a slice holds that is written through `zip` is not known after the loop.
-        for (i, call) in calls[..count].iter().enumerate() {
-            events[i] = self.call(*call);
+        // By place: what a slice holds that is written through `zip` is not known after the loop. By the index alone, since it names the call too.
+        for i in 0..count {
+            events[i] = self.call(calls[i]);
         }
         count
     }

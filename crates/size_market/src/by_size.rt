@@ -11,6 +11,7 @@ ghost use Rattle.size_market.specs.Size.{size_answer, round_after, ended_by, Law
 ghost use Rattle.tables.proofs.Counts.{series_count, logins_count};
 ghost use Rattle.size_market.specs.Meaning.{round_of};
 
+use crate::round::kept;
 use crate::state::SizeMarket;
 use crate::strikes::next_due;
 use chains::Slot;
@@ -42,9 +43,7 @@ impl<'a> Market for SizeMarket<'a> {
         ensures round { round_of self.new ≡ ended_by result (round_of self.old) }
     {
         let rested = self.tables.rest(series, entry);
-        if rested.is_ok() {
-            self.round = None;
-        }
+        self.round = kept(self.round, rested.is_ok());
         rested
     }
 
@@ -54,9 +53,7 @@ impl<'a> Market for SizeMarket<'a> {
         ensures round { round_of self.new ≡ ended_by result (round_of self.old) }
     {
         let withdrawn = self.tables.withdraw(login, number);
-        if withdrawn.is_ok() {
-            self.round = None;
-        }
+        self.round = kept(self.round, withdrawn.is_ok());
         withdrawn
     }
 

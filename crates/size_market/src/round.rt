@@ -1,6 +1,6 @@
 //! A round as it stands between two strikes, and the share that it trades next.
 
-ghost use Rattle.std.specs.Prelude.{◌≡◌, ◌+◌, ◌≤◌};
+ghost use Rattle.std.specs.Prelude.{◌≡◌, ◌+◌, ◌≤◌, if◌then◌else◌, None};
 ghost use Rattle.size_market.specs.Steps.{Next, crossing_of};
 
 use tables::Crossing;
@@ -24,6 +24,13 @@ pub struct Due {
     pub(crate) round: Round,
     pub(crate) maker: Entry,
     pub(crate) share: Contracts,
+}
+
+/// What is left of a round by another call, which ends it where it is accepted. A function, so that what rest and withdraw do with their round has one contract.
+pub(crate) fn kept(round: Option<Round>, accepted: bool) -> Option<Round>
+    ensures { result ≡ (if accepted then None else round) }
+{
+    if accepted { None } else { round }
 }
 
 impl Due {

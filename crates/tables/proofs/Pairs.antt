@@ -1,5 +1,5 @@
 -- A buy and a sell of one series: what a trade of the two asks, and what it does.
-use Rattle.std.proofs.Common.{◌≡◌, ℕ, zero, suc, ◌<◌, Bool, true, false, cond, ◌&&◌, eqb, leb, ◌⊎◌, List, [], ◌∷◌, map, length, get_or, Some, Ok, filter, sym, refl, ap, ◌∙◌, subst, inl, inr, ⊎_elim, arith, le-leb}
+use Rattle.std.proofs.Common.{◌≡◌, ℕ, zero, suc, ◌+◌, ◌<◌, Bool, true, false, cond, ◌&&◌, eqb, leb, ◌⊎◌, List, [], ◌∷◌, map, length, get_or, Some, Ok, filter, sym, refl, ap, ◌∙◌, subst, inl, inr, ⊎_elim, arith, le-leb}
 use Rattle.std.proofs.lemmas.List.{get_or-map}
 use Rattle.std.proofs.lemmas.Bool.{cases_Bool, cond-true, cond-false, and_parts, and_from, or_left, or_right, eqb-true, eq-eqb}
 use Rattle.chains.specs.Asks.{oldest}
@@ -7,9 +7,9 @@ use Rattle.terms.specs.declared.events.Trade.{Trade}
 use Rattle.terms.specs.declared.events.Party.{Party}
 use Rattle.terms.specs.declared.messages.Fill.{Fill}
 use Rattle.terms.specs.Tables.{any_of}
-use Rattle.market.specs.Book.{Entry, Book, is_for}
+use Rattle.market.specs.Book.{Entry, Book, is_for, totals}
 use Rattle.market.specs.Market.{fills, fillable, less, filled_in, side_traded, buy_side, sell_side, traded, tradeable, slips_full, Struck}
-use Rattle.tables.specs.Cross.{fill_of, trade_of, names, Stands, Meet, Fair}
+use Rattle.tables.specs.Cross.{on_side, fill_of, trade_of, names, Stands, Meet, Fair, BothLose}
 
 -- ---- a test that one that stands meets
 
@@ -91,3 +91,15 @@ stands_in b mid f s k ne h e o = let P : List (List Entry) → Type 0 = λ v. St
 pub trade_is : (buy sell : Entry) (n price : ℕ) (p q : Party) (m c : ℕ) → p ≡ record { login = buy.login; number = buy.number } → q ≡ record { login = sell.login; number = sell.number } → m ≡ n → c ≡ price →
     ◌≡◌ {A = Trade} (record { buyer = p; seller = q; contracts = m; price = c }) (trade_of buy sell n price)
 trade_is buy sell n price p q m c ep eq em ec = λ i. record { buyer = ep i; seller = eq i; contracts = em i; price = ec i }
+
+-- ---- contracts bought and sold
+
+pub both_lose : (buy sell : Entry) (n m : ℕ) (b mid a : List (List Entry)) → buy.side ≡ 1 → sell.side ≡ 2 → m ≡ n →
+    totals (on_side buy.side) mid + n ≡ totals (on_side buy.side) b → ((side : ℕ) → (buy.side ≡ side → ⊥) → totals (on_side side) mid ≡ totals (on_side side) b) →
+    totals (on_side sell.side) a + n ≡ totals (on_side sell.side) mid → ((side : ℕ) → (sell.side ≡ side → ⊥) → totals (on_side side) a ≡ totals (on_side side) mid) → BothLose m b a
+both_lose buy sell n m b mid a sb ss em ob qb os qs =
+    let at_side = λ (s : ℕ) (v : List (List Entry)). totals (on_side s) v in
+    record {
+      bought = omega (arith, qs 1 (λ q. omega arith), ob, ap (λ s. at_side s mid) sb, ap (λ s. at_side s b) sb);
+      sold = omega (arith, qb 2 (λ q. omega arith), os, ap (λ s. at_side s a) ss, ap (λ s. at_side s mid) ss);
+    }

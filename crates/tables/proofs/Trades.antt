@@ -249,6 +249,9 @@ room_test t r e =
 
 -- ---- one side of a trade
 
+pub same_count : (t u : Tables) → t.slips ≡ u.slips → slip_count (slips_of t) ≡ slip_count (slips_of u)
+same_count t u e = ap (λ v. slip_count (seen_slips v)) e
+
 pub side_done : (t u v : Tables) (f : Fill) → resting_of u ≡ map (filled_in f) (resting_of t) → u.slips ≡ t.slips →
     book_of v ≡ with_slips_of (book_of u) f.login (waiting_of (book_of u) f.login ++ slip_of f ∷ []) → book_of v ≡ side_traded f (book_of t)
 side_done t u v f er es ev =
